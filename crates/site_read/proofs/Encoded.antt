@@ -25,6 +25,10 @@ Exact enc bs x = (bs ≡ enc (x .0) ++ x .1) × Bytes (x .1)
 rest-bytes : (b : ℕ) (bs : List ℕ) → Bytes (b ∷ bs) → Bytes bs
 rest-bytes b bs h = and-parts (ltb b 256) (every (λ b. ltb b 256) bs) h .1
 
+pub bytes-after : (xs ys : List ℕ) → Bytes (xs ++ ys) → Bytes ys
+bytes-after [] ys h = h
+bytes-after (x ∷ xs) ys h = bytes-after xs ys (and-parts (ltb x 256) (every (λ b. ltb b 256) (xs ++ ys)) h .1)
+
 pub many-exact : {X : Type 0} (p : List ℕ → Parsed X) (enc : X → List ℕ) → ((bs : List ℕ) → Bytes bs → (x : X × List ℕ) → p bs ≡ Ok x → Exact enc bs x) → (n : ℕ) (bs : List ℕ) → Bytes bs → (t : List X × List ℕ) → many p n bs ≡ Ok t → Exact (joined enc) bs t
 many-exact p enc each zero bs h t q = rw (← same-ok ([], bs) t q) (refl, h)
 many-exact p enc each (suc n) bs h t q =

@@ -1,4 +1,4 @@
--- What the parser reads is lawful.
+-- What is read is lawful.
 use Prim.Native.Nat.{ℕ, zero, suc, _+_, _-_, _*_, _^_, _<_, _≤_}
 use mathlib.Core.Path.{_≡_, refl, sym, ap, _∙_}
 use mathlib.Core.List.{List, [], _∷_, _++_}
@@ -10,9 +10,10 @@ use Rattle.std.proofs.shelf.Tests.{and-parts, and-from, eq-eqb, le-leb, leb-tru
 use Rattle.std.specs.declared.result.Result.{Result}
 use Rattle.std.specs.declared.result.Result.the-variants.{Ok, Err}
 use Rattle.site_read.specs.declared.fault.Fault.{Fault}
+use Rattle.site_read.specs.declared.fault.Fault.the-variants.{Kind}
 use Rattle.site_read.specs.Parse.{Parsed, then, many, value-of}
-use Rattle.site_read.specs.Tables.{Row, every, lawful-set, lawful-row, lawful-rows}
-use Rattle.site_read.specs.Fields.{ranged, target-set, row}
+use Rattle.site_read.specs.Tables.{Row, Gaps, Table, by-regions, by-contract, every, lawful-set, lawful-row, lawful-rows, Lawful-gaps, Lawful}
+use Rattle.site_read.specs.Fields.{ranged, target-set, row, regions, gaps, table}
 
 pub never : {X : Type 0} {P : Type 0} (e : Fault) (x : X) → Err e ≡ Ok x → P
 never e x q = let z : _≡_ {A = ℕ} 0 1 = cc in absurd (omega arith)
@@ -52,7 +53,7 @@ module _ (place size : ℕ) where
 all-five : (a b c d e : Bool) → a ≡ true → b ≡ true → c ≡ true → d ≡ true → e ≡ true → (a && b && c && d && e) ≡ true
 all-five a b c d e p q r s t = rw (p, q, r, s, t) refl
 
-all-three : (a b c : Bool) → a ≡ true → b ≡ true → c ≡ true → (a && b && c) ≡ true
+pub all-three : (a b c : Bool) → a ≡ true → b ≡ true → c ≡ true → (a && b && c) ≡ true
 all-three a b c p q r = rw (p, q, r) refl
 
 module _ (place size : ℕ) where
@@ -83,3 +84,42 @@ module _ (place size : ℕ) where
           let n : length rs ≡ count = ap length (sym s) ∙ k .0 in
           let w : every (lawful-row (length rs)) rs ≡ true = rw (n, ← s) (k .1) in
           all-three (leb 1 (length rs)) (leb (length rs) 16) (every (lawful-row (length rs)) rs) (le-leb 1 (length rs) (omega arith)) (le-leb (length rs) 16 (omega arith)) w
+
+module _ (place size : ℕ) where
+  in-range : (low high : ℕ) (bs : List ℕ) (x : ℕ × List ℕ) → ranged place size low high bs ≡ Ok x → (low ≤ x .0) × (x .0 ≤ high)
+  in-range low high bs x q =
+      let p = and-parts (leb low (x .0)) (leb (x .0) high) (ranged-ok place size low high bs x q .0) in
+      (leb-true low (x .0) (p .0), leb-true (x .0) high (p .1))
+
+  gaps-lawful : (bs : List ℕ) (x : Gaps × List ℕ) → gaps place size bs ≡ Ok x → Lawful-gaps (x .0)
+  gaps-lawful bs x q =
+      let a = then-ok (ranged place size 1 64 bs) _ x q in
+      let a′ = in-range 1 64 bs (a .0) (a .1) in
+      let b = then-ok (ranged place size (a .0 .0) 64 (a .0 .1)) _ x (a .2) in
+      let b′ = in-range (a .0 .0) 64 (a .0 .1) (b .0) (b .1) in
+      let c = then-ok (ranged place size 1 16 (b .0 .1)) _ x (b .2) in
+      let c′ = in-range 1 16 (b .0 .1) (c .0) (c .1) in
+      let d = then-ok (ranged place size (c .0 .0) 16 (c .0 .1)) _ x (c .2) in
+      let d′ = in-range (c .0 .0) 16 (c .0 .1) (d .0) (d .1) in
+      let g : Gaps = record { least-gap = a .0 .0; greatest-gap = b .0 .0; least-hold = c .0 .0; greatest-hold = d .0 .0 } in
+      rw (← same-ok (g, d .0 .1) x (d .2)) (record { gap-low = a′ .0; gap-order = b′ .0; gap-high = b′ .1; hold-low = c′ .0; hold-order = d′ .0; hold-high = d′ .1 })
+
+  regions-lawful : (bs : List ℕ) (x : List Row × List ℕ) → regions place size bs ≡ Ok x → lawful-rows (x .0) ≡ true
+  regions-lawful bs x q =
+      let n = then-ok (ranged place size 1 16 bs) _ x q in
+      let n′ = in-range 1 16 bs (n .0) (n .1) in
+      rows-ok place size (n .0 .0) (n .0 .1) (x .0) (n′ .0) (n′ .1) (ap value-of (n .2))
+
+  -- what is read is lawful
+  pub table-lawful : (bs : List ℕ) (x : Table × List ℕ) → table place size bs ≡ Ok x → Lawful (x .0)
+  table-lawful [] x q = never _ x q
+  table-lawful (k ∷ bs) x q = go (eqb k 1) (eqb k 2) q
+    where
+      go : (s t : Bool) → cond s (then (regions place size bs) λ t. Ok (by-regions (t .0), t .1)) (cond t (then (gaps place size bs) λ t. Ok (by-contract (t .0), t .1)) (Err (Kind place (size - length (k ∷ bs))))) ≡ Ok x → Lawful (x .0)
+      go true t r =
+          let a = then-ok (regions place size bs) (λ t. Ok (by-regions (t .0), t .1)) x r in
+          rw (← same-ok (by-regions (a .0 .0), a .0 .1) x (a .2)) (regions-lawful bs (a .0) (a .1))
+      go false true r =
+          let a = then-ok (gaps place size bs) (λ t. Ok (by-contract (t .0), t .1)) x r in
+          rw (← same-ok (by-contract (a .0 .0), a .0 .1) x (a .2)) (gaps-lawful bs (a .0) (a .1))
+      go false false r = never _ x r

@@ -22,13 +22,10 @@ use Rattle.site_read.specs.Fields.{ranged, row, regions, gaps, table}
 use Rattle.site_read.specs.Format.{encode, encode-row, encode-gaps, Bytes, Places}
 use Rattle.site_read.specs.Sites.{piece-table, slot-table, file-tables, site}
 use Rattle.site_read.specs.Records.{Piece, Pieces, piece, before, record-of, slot, pieces}
-use Rattle.site_read.proofs.Sound.{never, same-ok, then-ok, cond-ok, ranged-ok, rows-ok}
+use Rattle.site_read.proofs.Sound.{table-lawful}
 use Rattle.site_read.proofs.Decoded.{gaps-back, regions-back}
-use Rattle.site_read.proofs.Encoded.{encodes}
-
-bytes-after : (xs ys : List ℕ) → Bytes (xs ++ ys) → Bytes ys
-bytes-after [] ys h = h
-bytes-after (x ∷ xs) ys h = bytes-after xs ys (and-parts (ltb x 256) (every (λ b. ltb b 256) (xs ++ ys)) h .1)
+use Rattle.site_read.proofs.Encoded.{encodes, bytes-after}
+use Rattle.site_read.proofs.Headers.{header-exact}
 
 front-is : (xs ys bs : List ℕ) → bs ≡ xs ++ ys → before bs ys ≡ xs
 front-is xs ys bs e =
@@ -36,44 +33,6 @@ front-is xs ys bs e =
     ap (take (length bs - length ys)) e ∙ take-at xs ys (length bs - length ys) n
 
 module _ (place size : ℕ) where
-  in-range : (low high : ℕ) (bs : List ℕ) (x : ℕ × List ℕ) → ranged place size low high bs ≡ Ok x → (low ≤ x .0) × (x .0 ≤ high)
-  in-range low high bs x q =
-      let p = and-parts (leb low (x .0)) (leb (x .0) high) (ranged-ok place size low high bs x q .0) in
-      (leb-true low (x .0) (p .0), leb-true (x .0) high (p .1))
-
-  gaps-lawful : (bs : List ℕ) (x : Gaps × List ℕ) → gaps place size bs ≡ Ok x → Lawful-gaps (x .0)
-  gaps-lawful bs x q =
-      let a = then-ok (ranged place size 1 64 bs) _ x q in
-      let a′ = in-range 1 64 bs (a .0) (a .1) in
-      let b = then-ok (ranged place size (a .0 .0) 64 (a .0 .1)) _ x (a .2) in
-      let b′ = in-range (a .0 .0) 64 (a .0 .1) (b .0) (b .1) in
-      let c = then-ok (ranged place size 1 16 (b .0 .1)) _ x (b .2) in
-      let c′ = in-range 1 16 (b .0 .1) (c .0) (c .1) in
-      let d = then-ok (ranged place size (c .0 .0) 16 (c .0 .1)) _ x (c .2) in
-      let d′ = in-range (c .0 .0) 16 (c .0 .1) (d .0) (d .1) in
-      let g : Gaps = record { least-gap = a .0 .0; greatest-gap = b .0 .0; least-hold = c .0 .0; greatest-hold = d .0 .0 } in
-      rw (← same-ok (g, d .0 .1) x (d .2)) (record { gap-low = a′ .0; gap-order = b′ .0; gap-high = b′ .1; hold-low = c′ .0; hold-order = d′ .0; hold-high = d′ .1 })
-
-  regions-lawful : (bs : List ℕ) (x : List Row × List ℕ) → regions place size bs ≡ Ok x → lawful-rows (x .0) ≡ true
-  regions-lawful bs x q =
-      let n = then-ok (ranged place size 1 16 bs) _ x q in
-      let n′ = in-range 1 16 bs (n .0) (n .1) in
-      rows-ok place size (n .0 .0) (n .0 .1) (x .0) (n′ .0) (n′ .1) (ap value-of (n .2))
-
-  -- what is read is lawful
-  pub table-lawful : (bs : List ℕ) (x : Table × List ℕ) → table place size bs ≡ Ok x → Lawful (x .0)
-  table-lawful [] x q = never _ x q
-  table-lawful (k ∷ bs) x q = go (eqb k 1) (eqb k 2) q
-    where
-      go : (s t : Bool) → cond s (then (regions place size bs) λ t. Ok (by-regions (t .0), t .1)) (cond t (then (gaps place size bs) λ t. Ok (by-contract (t .0), t .1)) (Err (Kind place (size - length (k ∷ bs))))) ≡ Ok x → Lawful (x .0)
-      go true t r =
-          let a = then-ok (regions place size bs) (λ t. Ok (by-regions (t .0), t .1)) x r in
-          rw (← same-ok (by-regions (a .0 .0), a .0 .1) x (a .2)) (regions-lawful bs (a .0) (a .1))
-      go false true r =
-          let a = then-ok (gaps place size bs) (λ t. Ok (by-contract (t .0), t .1)) x r in
-          rw (← same-ok (by-contract (a .0 .0), a .0 .1) x (a .2)) (gaps-lawful bs (a .0) (a .1))
-      go false false r = never _ x r
-
   -- a record by itself reads as its table
   piece-reads : (t : Table) (at : ℕ) → Lawful t → piece-table place size (Some (piece t (encode t) at)) ≡ Ok (Some t)
   piece-reads (by-regions rs) at l =
@@ -86,7 +45,7 @@ module _ (place size : ℕ) where
   read : (bs : List ℕ) → Bytes bs → (x : Table × List ℕ) → table place size bs ≡ Ok x → (piece-table place size (Some (piece (x .0) (before bs (x .1)) (size - length bs))) ≡ Ok (Some (x .0))) × Bytes (x .1)
   read bs h x q =
       let e = encodes place size bs h x q in
-      (rw (front-is (encode (x .0)) (x .1) bs e) (piece-reads (x .0) (size - length bs) (table-lawful bs x q)), bytes-after (encode (x .0)) (x .1) (rw e at h))
+      (rw (front-is (encode (x .0)) (x .1) bs e) (piece-reads (x .0) (size - length bs) (table-lawful place size bs x q)), bytes-after (encode (x .0)) (x .1) (rw e at h))
 
   module _ {Y : Type 0} (count : ℕ) (K : Option Piece × List ℕ → Result Y Fault) (L : Option Table × List ℕ → Result Y Fault) where
     slot-step : (bs : List ℕ) → Bytes bs → ((p : Option Piece) (t : Option Table) (r : List ℕ) → piece-table place size p ≡ Ok t → Bytes r → K (p, r) ≡ L (t, r)) → then (slot size count place bs) K ≡ then (slot-table size count place bs) L
@@ -115,30 +74,6 @@ last-step : (b : Bool) (size : ℕ) (p₁ p₂ p₃ p₄ : Option Piece) (t₁ t
 last-step true size p₁ p₂ p₃ p₄ t₁ t₂ t₃ t₄ e h₁ h₂ h₃ h₄ = refl
 last-step false size p₁ p₂ p₃ p₄ t₁ t₂ t₃ t₄ e h₁ h₂ h₃ h₄ = rw (h₁, h₂, h₃, h₄) refl
 
-pass : {X : Type 0} (r : Result (Unit {0}) Fault) (x y : X) → then r (λ _. Ok x) ≡ Ok y → x ≡ y
-pass r x y q = let a = then-ok r (λ _. Ok x) y q in same-ok x y (a .2)
-
-mark-bytes : (bs r : List ℕ) → Bytes bs → mark bs ≡ Ok r → Bytes r
-mark-bytes [] r h q = never _ r q
-mark-bytes (a ∷ []) r h q = never _ r q
-mark-bytes (a ∷ b ∷ []) r h q = never _ r q
-mark-bytes (a ∷ b ∷ c ∷ bs) r h q = rw (← pass (mark-fault a b c) bs r q) (bytes-after (a ∷ b ∷ c ∷ []) bs h)
-
-version-bytes : (bs r : List ℕ) → Bytes bs → version bs ≡ Ok r → Bytes r
-version-bytes [] r h q = never _ r q
-version-bytes (a ∷ []) r h q = never _ r q
-version-bytes (a ∷ b ∷ bs) r h q = rw (← pass (version-fault a b) bs r q) (bytes-after (a ∷ b ∷ []) bs h)
-
-loops-bytes : (bs : List ℕ) (x : ℕ × List ℕ) → Bytes bs → loops bs ≡ Ok x → Bytes (x .1)
-loops-bytes [] x h q = never _ x q
-loops-bytes (n ∷ bs) x h q = rw (← cond-ok (leb 1 n && leb n 4) (n, bs) x LoopCount q .1) (bytes-after (n ∷ []) bs h)
-
-header-bytes : (file : List ℕ) (x : ℕ × List ℕ) → Bytes file → header file ≡ Ok x → Bytes (x .1)
-header-bytes file x h q =
-    let b = then-ok (then (mark file) version) loops x q in
-    let a = then-ok (mark file) version (b .0) (b .1) in
-    loops-bytes (b .0) x (version-bytes (a .0) (b .0) (mark-bytes file (a .0) h (a .1)) (a .2)) (b .2)
-
 pub whole : (file : List ℕ) → Bytes file → file-tables file ≡ site file
 whole file h = go (header file) refl
   where
@@ -147,7 +82,7 @@ whole file h = go (header file) refl
     go (Ok x) q =
         rw q
         (then-assoc (slot (length file) (x .0) 1 (x .1)) _ (loads (length file))
-         ∙ slot-step 1 (length file) (x .0) _ _ (x .1) (header-bytes file x h q) (λ p₁ t₁ r₁ e₁ b₁.
+         ∙ slot-step 1 (length file) (x .0) _ _ (x .1) (header-exact file h x q .bytes) (λ p₁ t₁ r₁ e₁ b₁.
            then-assoc (slot (length file) (x .0) 2 r₁) _ (loads (length file))
            ∙ slot-step 2 (length file) (x .0) _ _ r₁ b₁ (λ p₂ t₂ r₂ e₂ b₂.
              then-assoc (slot (length file) (x .0) 3 r₂) _ (loads (length file))

@@ -50,16 +50,16 @@ loop-count p = held (p .first) + held (p .second) + held (p .third) + held (p .f
 -- the file of a site: the mark LKT, version 1, the number of loops, the records in file order
 abbrev pub file-of : Places → List ℕ
 file-of p =
-    (76 ∷ 75 ∷ 84 ∷ 0 ∷ 1 ∷ loop-count p ∷ []) ++ placed (p .first) ++ placed (p .second) ++ placed (p .third) ++ placed (p .fourth)
+    76 ∷ 75 ∷ 84 ∷ 0 ∷ 1 ∷ loop-count p ∷ (placed (p .first) ++ (placed (p .second) ++ (placed (p .third) ++ placed (p .fourth))))
 
 -- no loop stands behind an empty place
-abbrev pub behind : Option Table → Option Table → Bool
-behind (Some t) q = true
-behind None None = true
-behind None (Some t) = false
+abbrev pub no-gap : Option Table → Option Table → Bool
+no-gap (Some t) q = true
+no-gap None None = true
+no-gap None (Some t) = false
 
 abbrev pub in-order : Places → Bool
-in-order p = behind (p .first) (p .second) && behind (p .second) (p .third) && behind (p .third) (p .fourth)
+in-order p = no-gap (p .first) (p .second) && no-gap (p .second) (p .third) && no-gap (p .third) (p .fourth)
 
 abbrev pub Lawful-place : Option Table → Type 0
 Lawful-place None = Unit {0}

@@ -1,0 +1,2 @@
+mod Fill
+mod Numbered

@@ -1,0 +1,4 @@
+pub mod Regions
+pub mod States
+pub mod Loading
+pub mod Places
