@@ -1,2 +1,3 @@
 mod Fill
 mod Numbered
+pub mod Bounds
