@@ -127,27 +127,26 @@ def members(region_set):
     return "{" + ", ".join(names) + "}"
 
 
-def region_fields(region):
+def region_fields(name, region):
     earliest, deadline, sets = region
-    yield one_byte(earliest), f"earliest send {earliest}"
-    yield one_byte(deadline), f"deadline {deadline}"
+    yield one_byte(earliest), f"{name}: earliest send {earliest}"
+    yield one_byte(deadline), f"{name}: deadline {deadline}"
     for check, region_set in enumerate(sets, start=earliest):
-        yield two_bytes(region_set), f"a send at check {check} leads to a region of {members(region_set)}"
+        yield two_bytes(region_set), f"{name}: a send at check {check} leads to a region of {members(region_set)}"
 
 
-def record_fields(loop):
+def record_fields(name, loop):
     if isinstance(loop, RegionLoop):
-        yield one_byte(REGION_KIND), f"kind {REGION_KIND}, a region loop"
-        yield one_byte(len(loop.regions)), f"number of regions {len(loop.regions)}"
-        for name, region in enumerate(loop.regions):
-            for data, meaning in region_fields(region):
-                yield data, f"region {name}: {meaning}"
+        yield one_byte(REGION_KIND), f"{name}: kind {REGION_KIND}, a region loop"
+        yield one_byte(len(loop.regions)), f"{name}: number of regions {len(loop.regions)}"
+        for number, region in enumerate(loop.regions):
+            yield from region_fields(f"{name}, region {number}", region)
     else:
-        yield one_byte(CONTRACT_KIND), f"kind {CONTRACT_KIND}, a contract loop"
-        yield one_byte(loop.least_gap), f"least gap {loop.least_gap}"
-        yield one_byte(loop.greatest_gap), f"greatest gap {loop.greatest_gap}"
-        yield one_byte(loop.least_hold), f"least hold {loop.least_hold}"
-        yield one_byte(loop.greatest_hold), f"greatest hold {loop.greatest_hold}"
+        yield one_byte(CONTRACT_KIND), f"{name}: kind {CONTRACT_KIND}, a contract loop"
+        yield one_byte(loop.least_gap), f"{name}: least gap {loop.least_gap}"
+        yield one_byte(loop.greatest_gap), f"{name}: greatest gap {loop.greatest_gap}"
+        yield one_byte(loop.least_hold), f"{name}: least hold {loop.least_hold}"
+        yield one_byte(loop.greatest_hold), f"{name}: greatest hold {loop.greatest_hold}"
 
 
 def fields(loops):
@@ -155,9 +154,8 @@ def fields(loops):
     yield MARK, f"mark {MARK.decode()}"
     yield two_bytes(VERSION), f"version {VERSION}"
     yield one_byte(len(loops)), f"number of loops {len(loops)}"
-    for place, loop in enumerate(loops, start=1):
-        for data, meaning in record_fields(loop):
-            yield data, f"loop {place}: {meaning}"
+    for number, loop in enumerate(loops, start=1):
+        yield from record_fields(f"loop {number}", loop)
 
 
 def write(loops: list[RegionLoop | ContractLoop]) -> bytes:

@@ -1,1 +1,2 @@
-pub mod Pastes
+mod Pastes
+mod Saved
