@@ -4,7 +4,7 @@ use Rattle.site_read.specs.declared.fault.Fault.{Fault}
 use Rattle.site_read.specs.declared.fault.Fault.the-variants.{Truncated, Mark, Version, LoopCount, Kind, Number, Set, Trailing}
 use Rattle.site_read.specs.declared.fault.Report.{Report}
 
-abbrev told : ℕ → ℕ → ℕ → Report
+abbrev pub told : ℕ → ℕ → ℕ → Report
 told n q a = record { number = n; place = q; at = a }
 
 abbrev pub report : Fault → Report
