@@ -19,7 +19,7 @@ use Rattle.loops.specs.declared.load_fault.LoadFault.{LoadFault}
 use Rattle.loops.specs.declared.load_fault.LoadFault.the-variants.{File, Memory}
 use Rattle.loops.specs.Loading.{Holds}
 use Rattle.site.specs.declared.site.Site.{Site}
-use Rattle.site.specs.Loaded.{site-places, Loaded, Accepted}
+use Rattle.site.specs.Loaded.{site-places, Accepted}
 
 pub assembled : (file : List ℕ) (p : Pieces) (a b c d : Option Table) → Ok p ≡ pieces file → piece-table 1 (length file) (p .first) ≡ Ok a → piece-table 2 (length file) (p .second) ≡ Ok b → piece-table 3 (length file) (p .third) ≡ Ok c → piece-table 4 (length file) (p .fourth) ≡ Ok d → file-tables file ≡ Ok (record { first = a; second = b; third = c; fourth = d })
 assembled file p a b c d e h₁ h₂ h₃ h₄ = rw (← e, h₁, h₂, h₃, h₄) refl
@@ -27,12 +27,14 @@ assembled file p a b c d e h₁ h₂ h₃ h₄ = rw (← e, h₁, h₂, h₃, h�
 pub read-in-order : (file : List ℕ) → Bytes file → (p : Places) → file-tables file ≡ Ok p → in-order p ≡ true
 read-in-order file h p e = only-files-are-read file h p (sym (whole file h) ∙ e) .0 .order
 
--- a load by what its file holds
-pub taken : (file : List ℕ) (new : Site) → Bytes file → file-tables file ≡ Ok (site-places new) → (site file ≡ Ok (site-places new)) × (Lawful-site (site-places new) × (file ≡ file-of (site-places new)))
-taken file new h e = let s = sym (whole file h) ∙ e in (s, only-files-are-read file h (site-places new) s)
+-- what the records hold is the site of the file
+pub by-records : (file : List ℕ) → Bytes file → (r : Result Site LoadFault) → Holds site-places (file-tables file) r → Holds site-places (site file) r
+by-records file h (Ok s) q = sym (whole file h) ∙ q
+by-records file h (Err (File e)) q = sym (whole file h) ∙ q
+by-records file h (Err Memory) q = tt
 
-pub refused : (file : List ℕ) (old : Site) (y : LoadFault) → Bytes file → Holds site-places (file-tables file) (Err y) → Loaded (site file) old old (Err y) × Accepted file old (Err y)
-refused file old (File e) h q =
-    let s : site file ≡ Err e = sym (whole file h) ∙ q in
-    ((s, refl), λ p l f. never e p (sym s ∙ ap site f ∙ files-are-read p l))
-refused file old Memory h q = (refl, tt)
+-- and the file is that of the site
+pub accepted : (file : List ℕ) → Bytes file → (r : Result Site LoadFault) → Holds site-places (site file) r → Accepted file r
+accepted file h (Ok s) q = only-files-are-read file h (site-places s) q
+accepted file h (Err (File e)) q = λ p l f. never e p (sym q ∙ ap site f ∙ files-are-read p l)
+accepted file h (Err Memory) q = tt

@@ -20,8 +20,13 @@ Loaded s old new (Ok _) = s ≡ Ok (site-places new)
 Loaded s old new (Err (File e)) = (s ≡ Err e) × (new ≡ old)
 Loaded s old new (Err Memory) = new ≡ old
 
--- an accepted file is the file of the site that it loads to, which is lawful; a refused one is that of no lawful site
-abbrev pub Accepted : List ℕ → Site → Result (Unit {0}) LoadFault → Type 0
-Accepted file new (Ok _) = Lawful-site (site-places new) × (file ≡ file-of (site-places new))
-Accepted file new (Err (File e)) = (p : Places) → Lawful-site p → file ≡ file-of p → ⊥
-Accepted file new (Err Memory) = Unit {0}
+-- an accepted file is the file of the site that it is read as, which is lawful; a refused one is that of no lawful site
+abbrev pub Accepted : List ℕ → Result Site LoadFault → Type 0
+Accepted file (Ok s) = Lawful-site (site-places s) × (file ≡ file-of (site-places s))
+Accepted file (Err (File e)) = (p : Places) → Lawful-site p → file ≡ file-of p → ⊥
+Accepted file (Err Memory) = Unit {0}
+
+-- the same of a load that leaves the site `new`
+abbrev pub Accepted-load : List ℕ → Site → Result (Unit {0}) LoadFault → Type 0
+Accepted-load file new (Ok _) = Accepted file (Ok new)
+Accepted-load file new (Err y) = Accepted file (Err y)

@@ -2,7 +2,7 @@
 ghost use mathlib.Core.Path.{_≡_};
 ghost use Rattle.site_read.specs.Sites.{file-tables, site};
 ghost use Rattle.loops.specs.Loading.{Holds};
-ghost use Rattle.site.specs.Loaded.{site-places, Loaded, Accepted};
+ghost use Rattle.site.specs.Loaded.{site-places, Loaded, Accepted, Accepted-load};
 use crate::site::Site;
 use loops::load_fault::LoadFault;
 use loops::load_fault::LoadFaultFromFault;
@@ -12,8 +12,8 @@ use site_read::records::read_records;
 use std::alloc::Global;
 
 impl Site {
-    // The site in a file, record by record.
-    fn read(heap: Global, file: &[u8]) -> Result<Site, LoadFault>
+    // The site that the records of a file hold.
+    fn from_records(heap: Global, file: &[u8]) -> Result<Site, LoadFault>
         ensures { λ r. ⌜ Holds site-places (file-tables (now (file .entry))) r ⌝ }
     {
         let size = file.len();
@@ -25,11 +25,19 @@ impl Site {
         Ok(Site { first, second, third, fourth })
     }
 
+    // The site of a file.
+    fn read(heap: Global, file: &[u8]) -> Result<Site, LoadFault>
+        ensures read { λ r. ⌜ Holds site-places (site (now (file .entry))) r ⌝ }
+        ensures accepted { λ r. ⌜ Accepted (now (file .entry)) r ⌝ }
+    {
+        Site::from_records(heap, file)
+    }
+
     /// Takes the file's tables, and empties the places that it does not fill. A fault of the file, or want of memory,
     /// leaves the site as it was. A file is accepted exactly when it is the file of a lawful site.
     pub fn load(&mut self, heap: Global, file: &[u8]) -> Result<(), LoadFault>
         ensures loaded { λ r. ⌜ Loaded (site (now (file .entry))) (now (self .entry)) (now (self .exit)) r ⌝ }
-        ensures accepted { λ r. ⌜ Accepted (now (file .entry)) (now (self .exit)) r ⌝ }
+        ensures accepted { λ r. ⌜ Accepted-load (now (file .entry)) (now (self .exit)) r ⌝ }
     {
         *self = Site::read(heap, file)?;
         Ok(())
