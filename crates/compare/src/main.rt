@@ -111,7 +111,12 @@ fn print_difference(rt: &LibcRuntime, hex: &str, found: &str, expected: &str) ->
 }
 
 /// Counts one case, and prints it where the verdict is another.
-fn compare_case(rt: &LibcRuntime, tally: &mut Tally, hex: &str, expected: &str) -> Result<(), AnyError> {
+fn compare_case(
+    rt: &LibcRuntime,
+    tally: &mut Tally,
+    hex: &str,
+    expected: &str,
+) -> Result<(), AnyError> {
     let Some(file) = unhex(rt.alloc(), hex.as_bytes())? else {
         return Err("a case is no hex".into());
     };
@@ -130,7 +135,12 @@ fn compare_case(rt: &LibcRuntime, tally: &mut Tally, hex: &str, expected: &str) 
 }
 
 fn run(rt: &LibcRuntime) -> Result<(), AnyError> {
-    let mut tally = Tally { cases: 0, agree: 0, accepted: 0, written_back: 0 };
+    let mut tally = Tally {
+        cases: 0,
+        agree: 0,
+        accepted: 0,
+        written_back: 0,
+    };
     for line in BufReader::new(rt.stdin()).lines(rt.alloc()) {
         let line = line?;
         if line.as_str().starts_with('#') {
@@ -141,7 +151,12 @@ fn run(rt: &LibcRuntime) -> Result<(), AnyError> {
         };
         compare_case(rt, &mut tally, hex, expected)?;
     }
-    let Tally { cases, agree, accepted, written_back } = tally;
+    let Tally {
+        cases,
+        agree,
+        accepted,
+        written_back,
+    } = tally;
     println!(rt, "{cases} cases: {agree} verdicts agree")?;
     println!(rt, "{accepted} accepted files: {written_back} written back")?;
     Ok(())

@@ -34,7 +34,11 @@ fn fields(bytes: &[u8]) -> &[u8]
 
 impl Place {
     /// The table of a lent record; without a record the place is vacant.
-    pub fn load(heap: Global, reader: RecordReader, lent: Option<Record<'_>>) -> Result<Place, LoadFault>
+    pub fn load(
+        heap: Global,
+        reader: RecordReader,
+        lent: Option<Record<'_>>,
+    ) -> Result<Place, LoadFault>
         ensures { λ r. ⌜ Holds place-table (piece-table (reader .place) (reader .size) (mapped piece-of (lent .entry))) r ⌝ }
     {
         match lent {

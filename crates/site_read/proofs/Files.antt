@@ -104,7 +104,7 @@ only-files-are-read file h p q =
     let z = last (leb 1 (length (d .0 .1))) _ _ (d .2) in
     let end : d .0 .1 ≡ [] = nothing-left (d .0 .1) (z .0) in
     let n-is : held (a .0 .0) + held (b .0 .0) + held (c .0 .0) + held (d .0 .0) ≡ n
-             = counted n (held (a .0 .0)) (held (b .0 .0)) (held (c .0 .0)) (held (d .0 .0)) (e₀ .low) (e₀ .high) (ra .filled) (rb .filled) (rc .filled) (rd .filled) in
+    = counted n (held (a .0 .0)) (held (b .0 .0)) (held (c .0 .0)) (held (d .0 .0)) (e₀ .low) (e₀ .high) (ra .filled) (rb .filled) (rc .filled) (rd .filled) in
     let o₁ = ordered (a .0 .0) (b .0 .0) (falls n 1 (held (a .0 .0)) (held (b .0 .0)) (ra .filled) (rb .filled)) in
     let o₂ = ordered (b .0 .0) (c .0 .0) (falls n 2 (held (b .0 .0)) (held (c .0 .0)) (rb .filled) (rc .filled)) in
     let o₃ = ordered (c .0 .0) (d .0 .0) (falls n 3 (held (c .0 .0)) (held (d .0 .0)) (rc .filled) (rd .filled)) in
@@ -112,16 +112,17 @@ only-files-are-read file h p q =
     let t₃ : b .0 .1 ≡ placed (c .0 .0) ++ placed (d .0 .0) = rc .exact ∙ ap (λ (l : List ℕ). placed (c .0 .0) ++ l) t₄ in
     let t₂ : a .0 .1 ≡ placed (b .0 .0) ++ (placed (c .0 .0) ++ placed (d .0 .0)) = rb .exact ∙ ap (λ (l : List ℕ). placed (b .0 .0) ++ l) t₃ in
     let t₁ : hd .0 .1 ≡ placed (a .0 .0) ++ (placed (b .0 .0) ++ (placed (c .0 .0) ++ placed (d .0 .0))) = ra .exact ∙ ap (λ (l : List ℕ). placed (a .0 .0) ++ l) t₂ in
-    rw (← z .1)
-    ( record
-        { first = ra .lawful
-        ; second = rb .lawful
-        ; third = rc .lawful
-        ; fourth = rd .lawful
-        ; order = all-three (no-gap (a .0 .0) (b .0 .0)) (no-gap (b .0 .0) (c .0 .0)) (no-gap (c .0 .0) (d .0 .0)) o₁ o₂ o₃
-        ; some = λ none. omega (arith, none, n-is, e₀ .low)
-        }
-    , e₀ .exact ∙ ap₂ (λ (m : ℕ) (l : List ℕ). 76 ∷ 75 ∷ 84 ∷ 0 ∷ 1 ∷ m ∷ l) (sym n-is) t₁)
+    rw (← z .1) (
+      record {
+        first = ra .lawful;
+        second = rb .lawful;
+        third = rc .lawful;
+        fourth = rd .lawful;
+        order = all-three (no-gap (a .0 .0) (b .0 .0)) (no-gap (b .0 .0) (c .0 .0)) (no-gap (c .0 .0) (d .0 .0)) o₁ o₂ o₃;
+        some = λ none. omega (arith, none, n-is, e₀ .low);
+      },
+      e₀ .exact ∙ ap₂ (λ (m : ℕ) (l : List ℕ). 76 ∷ 75 ∷ 84 ∷ 0 ∷ 1 ∷ m ∷ l) (sym n-is) t₁,
+    )
   where
     last : (b : Bool) (x : Places) (e : Fault) → cond b (Err e) (Ok x) ≡ Ok p → (b ≡ false) × (x ≡ p)
     last true x e q = never e p q

@@ -59,12 +59,12 @@ header-exact file h x q =
     let ev = version-exact (a .0) (b .0) ha (a .2) in
     let hb : Bytes (b .0) = bytes-after (0 ∷ 1 ∷ []) (b .0) (rw ev at ha) in
     let l = counted (b .0) x (b .2) in
-    record
-      { exact = em ∙ ap (λ (r : List ℕ). 76 ∷ 75 ∷ 84 ∷ r) (ev ∙ ap (λ (r : List ℕ). 0 ∷ 1 ∷ r) (l .0))
-      ; low = l .1
-      ; high = l .2
-      ; bytes = bytes-after (x .0 ∷ []) (x .1) (rw (l .0) at hb)
-      }
+    record {
+      exact = em ∙ ap (λ (r : List ℕ). 76 ∷ 75 ∷ 84 ∷ r) (ev ∙ ap (λ (r : List ℕ). 0 ∷ 1 ∷ r) (l .0));
+      low = l .1;
+      high = l .2;
+      bytes = bytes-after (x .0 ∷ []) (x .1) (rw (l .0) at hb);
+    }
   where
     counted : (bs : List ℕ) (x : ℕ × List ℕ) → loops bs ≡ Ok x → (bs ≡ x .0 ∷ x .1) × (1 ≤ x .0) × (x .0 ≤ 4)
     counted [] x q = never _ x q

@@ -71,7 +71,7 @@ module _ (place size : ℕ) where
       let same = same-ok (r, c .0 .1) x (c .2) in
       rw (← same)
       (all-five (leb 1 (a .0 .0)) (leb (a .0 .0) (b .0 .0)) (leb (b .0 .0) 64) (eqb (length (c .0 .0)) (b .0 .0 + 1 - a .0 .0)) (every (lawful-set count) (c .0 .0))
-       (e′ .0) (d′ .0) (d′ .1) (eq-eqb (length (c .0 .0)) (b .0 .0 + 1 - a .0 .0) (t .0)) (t .1))
+      (e′ .0) (d′ .0) (d′ .1) (eq-eqb (length (c .0 .0)) (b .0 .0 + 1 - a .0 .0) (t .0)) (t .1))
 
   pub rows-ok : (count : ℕ) (bs : List ℕ) (rs : List Row) → 1 ≤ count → count ≤ 16 → value-of (many (row place size count) count bs) ≡ Ok rs → lawful-rows rs ≡ true
   rows-ok count bs rs lo hi q = go (many (row place size count) count bs) refl q

@@ -37,7 +37,7 @@ module _ (place size : ℕ) where
   piece-reads : (t : Table) (at : ℕ) → Lawful t → piece-table place size (Some (piece t (encode t) at)) ≡ Ok (Some t)
   piece-reads (by-regions rs) at l =
       let e : regions place size (length rs ∷ joined encode-row rs) ≡ Ok (rs, [])
-            = ap (λ (b : List ℕ). regions place size (length rs ∷ b)) (sym (append-nil (joined encode-row rs))) ∙ regions-back place size rs [] l in
+      = ap (λ (b : List ℕ). regions place size (length rs ∷ b)) (sym (append-nil (joined encode-row rs))) ∙ regions-back place size rs [] l in
       rw e refl
   piece-reads (by-contract g) at l =
       let e = gaps-back place size g [] l in rw e refl
@@ -82,14 +82,14 @@ whole file h = go (header file) refl
     go (Ok x) q =
         rw q
         (then-assoc (slot (length file) (x .0) 1 (x .1)) _ (loads (length file))
-         ∙ slot-step 1 (length file) (x .0) _ _ (x .1) (header-exact file h x q .bytes) (λ p₁ t₁ r₁ e₁ b₁.
-           then-assoc (slot (length file) (x .0) 2 r₁) _ (loads (length file))
-           ∙ slot-step 2 (length file) (x .0) _ _ r₁ b₁ (λ p₂ t₂ r₂ e₂ b₂.
-             then-assoc (slot (length file) (x .0) 3 r₂) _ (loads (length file))
-             ∙ slot-step 3 (length file) (x .0) _ _ r₂ b₂ (λ p₃ t₃ r₃ e₃ b₃.
-               then-assoc (slot (length file) (x .0) 4 r₃) _ (loads (length file))
-               ∙ slot-step 4 (length file) (x .0) _ _ r₃ b₃ (λ p₄ t₄ r₄ e₄ b₄.
-                 last-step (leb 1 (length r₄)) (length file) p₁ p₂ p₃ p₄ t₁ t₂ t₃ t₄ (Trailing (length file - length r₄)) e₁ e₂ e₃ e₄)))))
+        ∙ slot-step 1 (length file) (x .0) _ _ (x .1) (header-exact file h x q .bytes) (λ p₁ t₁ r₁ e₁ b₁.
+        then-assoc (slot (length file) (x .0) 2 r₁) _ (loads (length file))
+        ∙ slot-step 2 (length file) (x .0) _ _ r₁ b₁ (λ p₂ t₂ r₂ e₂ b₂.
+        then-assoc (slot (length file) (x .0) 3 r₂) _ (loads (length file))
+        ∙ slot-step 3 (length file) (x .0) _ _ r₂ b₂ (λ p₃ t₃ r₃ e₃ b₃.
+        then-assoc (slot (length file) (x .0) 4 r₃) _ (loads (length file))
+        ∙ slot-step 4 (length file) (x .0) _ _ r₃ b₃ (λ p₄ t₄ r₄ e₄ b₄.
+        last-step (leb 1 (length r₄)) (length file) p₁ p₂ p₃ p₄ t₁ t₂ t₃ t₄ (Trailing (length file - length r₄)) e₁ e₂ e₃ e₄)))))
 
 -- a slice of bytes
 pub bytes-from : (bs : List ℕ) → ((i : ℕ) → getD bs i 0 < 256) → Bytes bs

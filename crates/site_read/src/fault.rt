@@ -1,6 +1,6 @@
 //! Why a site file is refused.
 ghost use mathlib.Core.Path.{_≡_};
-ghost use Rattle.site_read.specs.Faults.{report as reportOf};
+ghost use Rattle.site_read.specs.Faults.{report as reportOf, told as toldOf};
 
 /// A fault of a file. `place` is the loop's number in the file, from 1; `at` is a byte's offset in the file.
 #[derive(Clone, Copy, PartialEq, Eq, Debug)]
@@ -31,19 +31,25 @@ pub struct Report {
     pub at: usize,
 }
 
+fn told(number: u8, place: u8, at: usize) -> Report
+    ensures { λ r. ⌜ r ≡ toldOf number place at ⌝ }
+{
+    Report { number, place, at }
+}
+
 impl Fault {
     pub fn report(self) -> Report
         ensures { λ r. ⌜ r ≡ reportOf self ⌝ }
     {
         match self {
-            Fault::Truncated { place, at } => Report { number: 1, place, at },
-            Fault::Mark { at } => Report { number: 2, place: 0, at },
-            Fault::Version => Report { number: 3, place: 0, at: 3 },
-            Fault::LoopCount => Report { number: 4, place: 0, at: 5 },
-            Fault::Kind { place, at } => Report { number: 5, place, at },
-            Fault::Number { place, at } => Report { number: 6, place, at },
-            Fault::Set { place, at } => Report { number: 7, place, at },
-            Fault::Trailing { at } => Report { number: 8, place: 0, at },
+            Fault::Truncated { place, at } => told(1, place, at),
+            Fault::Mark { at } => told(2, 0, at),
+            Fault::Version => told(3, 0, 3),
+            Fault::LoopCount => told(4, 0, 5),
+            Fault::Kind { place, at } => told(5, place, at),
+            Fault::Number { place, at } => told(6, place, at),
+            Fault::Set { place, at } => told(7, place, at),
+            Fault::Trailing { at } => told(8, 0, at),
         }
     }
 }

@@ -37,10 +37,14 @@ impl RecordReader {
     {
         let place = self.place;
         let [b, after @ ..] = rest else {
-            return Err(Fault::Truncated { place, at: self.size });
+            return Err(Fault::Truncated {
+                place,
+                at: self.size,
+            });
         };
         if *b < low || *b > high {
-            return Err(Fault::Number { place, at: self.offset(rest) });
+            let at = self.offset(rest);
+            return Err(Fault::Number { place, at });
         }
         Ok((*b, after))
     }
@@ -51,11 +55,15 @@ impl RecordReader {
     {
         let place = self.place;
         let [high, low, after @ ..] = rest else {
-            return Err(Fault::Truncated { place, at: self.size });
+            return Err(Fault::Truncated {
+                place,
+                at: self.size,
+            });
         };
         let set = u16::from_be_bytes([*high, *low]);
         if !is_set_below(set, count) {
-            return Err(Fault::Set { place, at: self.offset(rest) });
+            let at = self.offset(rest);
+            return Err(Fault::Set { place, at });
         }
         Ok((set, after))
     }

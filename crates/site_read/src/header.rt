@@ -51,8 +51,14 @@ pub fn header(file: &[u8]) -> Result<(u8, &[u8]), Fault>
         }
         [m0, m1, m2, ..] => {
             check_mark(*m0, *m1, *m2)?;
-            Err(Fault::Truncated { place: 0, at: file.len() })
+            Err(Fault::Truncated {
+                place: 0,
+                at: file.len(),
+            })
         }
-        _ => Err(Fault::Truncated { place: 0, at: file.len() }),
+        _ => Err(Fault::Truncated {
+            place: 0,
+            at: file.len(),
+        }),
     }
 }

@@ -41,7 +41,10 @@ impl RecordReader {
     {
         let place = self.place;
         let [kind, body @ ..] = rest else {
-            return Err(Fault::Truncated { place, at: self.size });
+            return Err(Fault::Truncated {
+                place,
+                at: self.size,
+            });
         };
         let at = self.offset(rest);
         if *kind == 1 {
@@ -80,7 +83,14 @@ pub fn read_records(file: &[u8]) -> Result<Records<'_>, Fault>
     let (third, rest) = RecordReader { place: 3, size }.slot(count, rest)?;
     let (fourth, rest) = RecordReader { place: 4, size }.slot(count, rest)?;
     if !rest.is_empty() {
-        return Err(Fault::Trailing { at: size.saturating_sub(rest.len()) });
+        return Err(Fault::Trailing {
+            at: size.saturating_sub(rest.len()),
+        });
     }
-    Ok(Records { first, second, third, fourth })
+    Ok(Records {
+        first,
+        second,
+        third,
+        fourth,
+    })
 }

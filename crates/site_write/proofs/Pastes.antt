@@ -30,8 +30,8 @@ pasted-more out at xs ys h =
     let t : take (at + length xs) (pasted out at xs) ≡ P = ap (take (at + length xs)) e ∙ take-at P D (at + length xs) lp in
     let d : drop (at + length xs) (pasted out at xs) ≡ D = ap (drop (at + length xs)) e ∙ drop-at P D (at + length xs) lp in
     let w : drop (at + length xs + length ys) (pasted out at xs) ≡ drop (at + length (xs ++ ys)) out
-          = sym (drop-drop (length ys) (at + length xs) (pasted out at xs)) ∙ ap (drop (length ys)) d ∙ drop-drop (length ys) (at + length xs) out
-            ∙ ap (λ (n : ℕ). drop n out) (add-assoc at (length xs) (length ys) ∙ ap (λ (n : ℕ). at + n) (sym (length-append xs ys))) in
+    = sym (drop-drop (length ys) (at + length xs) (pasted out at xs)) ∙ ap (drop (length ys)) d ∙ drop-drop (length ys) (at + length xs) out
+    ∙ ap (λ (n : ℕ). drop n out) (add-assoc at (length xs) (length ys) ∙ ap (λ (n : ℕ). at + n) (sym (length-append xs ys))) in
     ap₂ (λ (a b : List ℕ). a ++ (ys ++ b)) t w
     ∙ append-assoc (take at out) xs (ys ++ drop (at + length (xs ++ ys)) out)
     ∙ ap (λ (l : List ℕ). take at out ++ l) (sym (append-assoc xs ys (drop (at + length (xs ++ ys)) out)))

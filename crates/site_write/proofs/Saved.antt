@@ -39,14 +39,14 @@ lawful-place (Contract x) =
 
 lawful-site : (s : Site) → (loop-count (site-places s) ≡ 0 → ⊥) → Lawful-site (site-places s)
 lawful-site s some =
-    record
-      { first = lawful-place (s .first)
-      ; second = lawful-place (s .second)
-      ; third = lawful-place (s .third)
-      ; fourth = lawful-place (s .fourth)
-      ; order = s .order
-      ; some = some
-      }
+    record {
+      first = lawful-place (s .first);
+      second = lawful-place (s .second);
+      third = lawful-place (s .third);
+      fourth = lawful-place (s .fourth);
+      order = s .order;
+      some = some;
+    }
 
 module _ (p : Places) where
   pub site-length : length (file-of p) ≡ 6 + length (placed (p .first)) + length (placed (p .second)) + length (placed (p .third)) + length (placed (p .fourth))
@@ -73,7 +73,7 @@ pub only-file : (s : Site) (out o : List ℕ) (end : ℕ) → (loop-count (site-
 only-file s out o end some e w =
     let f : List ℕ = file-of (site-places s) in
     let same : take end o ≡ f = ap₂ (λ (n : ℕ) (l : List ℕ). take n l) e w ∙ take-at f (drop (0 + length f) out) (length f) refl in
-    record
-      { loads = ap site same ∙ files-are-read (site-places s) (lawful-site s some)
-      ; only = λ file bytes q. only-files-are-read file bytes (site-places s) q .1 ∙ sym same
-      }
+    record {
+      loads = ap site same ∙ files-are-read (site-places s) (lawful-site s some);
+      only = λ file bytes q. only-files-are-read file bytes (site-places s) q .1 ∙ sym same;
+    }

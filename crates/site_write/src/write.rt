@@ -34,8 +34,14 @@ impl WriteFault {
         ensures { λ r. ⌜ r ≡ write-report self ⌝ }
     {
         match self {
-            WriteFault::NoLoops => WriteReport { number: 4, value: 5 },
-            WriteFault::TooShort(wanted) => WriteReport { number: 15, value: wanted },
+            WriteFault::NoLoops => WriteReport {
+                number: 4,
+                value: 5,
+            },
+            WriteFault::TooShort(wanted) => WriteReport {
+                number: 15,
+                value: wanted,
+            },
         }
     }
 }

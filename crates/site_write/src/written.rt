@@ -74,7 +74,17 @@ impl Written for ContractLoop as ContractLoopWritten {
 
     fn put_at(&self, out: &mut [u8], at: usize) -> usize {
         let terms = self.terms();
-        put(out, at, &[2, terms.least_gap, terms.greatest_gap, terms.least_hold, terms.greatest_hold])
+        put(
+            out,
+            at,
+            &[
+                2,
+                terms.least_gap,
+                terms.greatest_gap,
+                terms.least_hold,
+                terms.greatest_hold,
+            ],
+        )
     }
 }
 

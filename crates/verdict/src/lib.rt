@@ -46,7 +46,11 @@ impl Verdict {
         ensures { λ r. ⌜ r ≡ sized states ⌝ }
     {
         if states > MOST_STATES {
-            return Verdict::Refused(Report { number: 9, place: 0, at: 0 });
+            return Verdict::Refused(Report {
+                number: 9,
+                place: 0,
+                at: 0,
+            });
         }
         Verdict::States(states)
     }

@@ -17,6 +17,13 @@ impl ContractLoop {
         let (greatest_gap, rest) = reader.ranged(rest, least_gap, 64)?;
         let (least_hold, rest) = reader.ranged(rest, 1, 16)?;
         let (greatest_hold, _) = reader.ranged(rest, least_hold, 16)?;
-        Ok(ContractLoop { terms: Terms { least_gap, greatest_gap, least_hold, greatest_hold } })
+        Ok(ContractLoop {
+            terms: Terms {
+                least_gap,
+                greatest_gap,
+                least_hold,
+                greatest_hold,
+            },
+        })
     }
 }

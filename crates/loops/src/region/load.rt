@@ -14,7 +14,13 @@ use crate::region::RegionSet;
 use site_read::field::RecordReader;
 use std::alloc::Global;
 
-fn load_sets<'a>(heap: Global, reader: RecordReader, rest: &'a [u8], count: u8, n: u8) -> Result<(Vec<RegionSet>, &'a [u8]), LoadFault>
+fn load_sets<'a>(
+    heap: Global,
+    reader: RecordReader,
+    rest: &'a [u8],
+    count: u8,
+    n: u8,
+) -> Result<(Vec<RegionSet>, &'a [u8]), LoadFault>
     ensures { λ r. ⌜ Loads sets-of (many (target-set (reader .place) (reader .size) count) n (now (rest .entry))) r ⌝ }
 {
     let mut sets = Vec::new(heap);
@@ -29,13 +35,27 @@ fn load_sets<'a>(heap: Global, reader: RecordReader, rest: &'a [u8], count: u8, 
 
 impl Region {
     /// The region that `rest` begins with, in a loop of `count` regions, and what remains behind it.
-    pub(crate) fn load<'a>(heap: Global, reader: RecordReader, rest: &'a [u8], count: u8, first_state: u16) -> Result<(Region, &'a [u8]), LoadFault>
+    pub(crate) fn load<'a>(
+        heap: Global,
+        reader: RecordReader,
+        rest: &'a [u8],
+        count: u8,
+        first_state: u16,
+    ) -> Result<(Region, &'a [u8]), LoadFault>
         ensures read { λ r. ⌜ Loads row-of (row (reader .place) (reader .size) count (now (rest .entry))) r ⌝ }
         ensures numbered { λ r. ⌜ made r (λ p. (p .0 .«first_state» ≡ «first_state») × (p .0 .deadline ≤ 64)) ⌝ }
     {
         let (earliest, rest) = reader.ranged(rest, 1, 64)?;
         let (deadline, rest) = reader.ranged(rest, earliest, 64)?;
         let (targets, rest) = load_sets(heap, reader, rest, count, deadline + 1 - earliest)?;
-        Ok((Region { earliest, deadline, first_state, targets }, rest))
+        Ok((
+            Region {
+                earliest,
+                deadline,
+                first_state,
+                targets,
+            },
+            rest,
+        ))
     }
 }

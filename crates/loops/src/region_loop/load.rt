@@ -17,7 +17,12 @@ use site_read::field::RecordReader;
 use std::alloc::Global;
 
 // The regions of a loop, and the number of their states.
-fn load_rows(heap: Global, reader: RecordReader, rest: &[u8], count: u8) -> Result<(Vec<Region>, u16), LoadFault>
+fn load_rows(
+    heap: Global,
+    reader: RecordReader,
+    rest: &[u8],
+    count: u8,
+) -> Result<(Vec<Region>, u16), LoadFault>
     ensures read { λ r. ⌜ Holds (λ p. rows-of (vec-items (p .0))) (value-of (many (row (reader .place) (reader .size) count) count (now (rest .entry)))) r ⌝ }
     ensures counted { λ r. ⌜ made r (λ p. (numbered 0 (vec-items (p .0)) ≡ true) × (p .1 ≡ deadlines (rows-of (vec-items (p .0))))) ⌝ }
 {

@@ -22,7 +22,12 @@ impl Site {
         let second = Place::load(heap, RecordReader { place: 2, size }, found.second)?;
         let third = Place::load(heap, RecordReader { place: 3, size }, found.third)?;
         let fourth = Place::load(heap, RecordReader { place: 4, size }, found.fourth)?;
-        Ok(Site { first, second, third, fourth })
+        Ok(Site {
+            first,
+            second,
+            third,
+            fourth,
+        })
     }
 
     // The site of a file.

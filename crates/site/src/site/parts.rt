@@ -11,7 +11,12 @@ impl Site {
     pub fn new() -> Site
         ensures { λ r. ⌜ site-places r ≡ vacant ⌝ }
     {
-        Site { first: Place::Vacant, second: Place::Vacant, third: Place::Vacant, fourth: Place::Vacant }
+        Site {
+            first: Place::Vacant,
+            second: Place::Vacant,
+            third: Place::Vacant,
+            fourth: Place::Vacant,
+        }
     }
 
     /// Its places, in file order.

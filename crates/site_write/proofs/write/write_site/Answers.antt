@@ -41,7 +41,7 @@ returns c =
     let b₃ = bytes _ _ (e .third) in
     let b₄ = bytes _ _ (e .fourth) in
     let count : c .place-loops .result + c .place-loops-2 .result + c .place-loops-3 .result + c .place-loops-4 .result ≡ loop-count p
-              = omega (arith, loops _ _ (e .first), loops _ _ (e .second), loops _ _ (e .third), loops _ _ (e .fourth)) in
+    = omega (arith, loops _ _ (e .first), loops _ _ (e .second), loops _ _ (e .third), loops _ _ (e .fourth)) in
     let some : loop-count p ≡ 0 → ⊥ = λ z. omega (arith, z, count) in
     let l = site-length p in
     let fits : length (file-of p) ≤ length out = omega (arith, l, ap length b₁, ap length b₂, ap length b₃, ap length b₄) in
@@ -61,15 +61,15 @@ returns c =
     let e₄ : c .put-at-three .result ≡ length three = omega (arith, c .put-at-three .ensures .end, ap length b₃, e₃, l₃) in
     let end : c .put-at .result ≡ length (file-of p) = omega (arith, c .put-at .ensures .end, ap length b₄, e₄, l₃, l₂, l₁, l) in
     let s₁ : c .put-head .last .out ≡ pasted out 0 head
-           = part-more out (c .put-mark .last .out) (c .put-head .last .out) mark (0 ∷ 1 ∷ loop-count p ∷ []) (0 ∷ 1 ∷ _ ∷ []) (c .put-mark .result) (c .put-mark .ensures .output) e₀ (omega (arith, fits, l))
-             (ap (λ (k : ℕ). 0 ∷ 1 ∷ k ∷ []) count) (c .put-head .ensures .output) in
+    = part-more out (c .put-mark .last .out) (c .put-head .last .out) mark (0 ∷ 1 ∷ loop-count p ∷ []) (0 ∷ 1 ∷ _ ∷ []) (c .put-mark .result) (c .put-mark .ensures .output) e₀ (omega (arith, fits, l))
+    (ap (λ (k : ℕ). 0 ∷ 1 ∷ k ∷ []) count) (c .put-head .ensures .output) in
     let s₂ = part-more out (c .put-head .last .out) (c .put-at-one .last .out) head (placed (p .first)) _ (c .put-head .result) s₁ e₁ (omega (arith, fits, l)) b₁ (c .put-at-one .ensures .output) in
     let s₃ = part-more out (c .put-at-one .last .out) (c .put-at-two .last .out) one (placed (p .second)) _ (c .put-at-one .result) s₂ e₂ (omega (arith, fits, l, l₁)) b₂ (c .put-at-two .ensures .output) in
     let s₄ = part-more out (c .put-at-two .last .out) (c .put-at-three .last .out) two (placed (p .third)) _ (c .put-at-two .result) s₃ e₃ (omega (arith, fits, l, l₁, l₂)) b₃ (c .put-at-three .ensures .output) in
     let s₅ = part-more out (c .put-at-three .last .out) (c .put-at .last .out) three (placed (p .fourth)) _ (c .put-at-three .result) s₄ e₄ (omega (arith, fits, l, l₁, l₂, l₃)) b₄ (c .put-at .ensures .output) in
     let all : c .put-at .last .out ≡ pasted out 0 (file-of p) = s₅ ∙ ap (pasted out 0) (regrouped p) in
-    record
-      { answer = written-answer p out some (c .put-at .result) end fits
-      ; output = written-output p out some (c .put-at .last .out) fits all
-      ; only-file = only-file (c .args .site .now) out (c .put-at .last .out) (c .put-at .result) some end all
-      }
+    record {
+      answer = written-answer p out some (c .put-at .result) end fits;
+      output = written-output p out some (c .put-at .last .out) fits all;
+      only-file = only-file (c .args .site .now) out (c .put-at .last .out) (c .put-at .result) some end all;
+    }

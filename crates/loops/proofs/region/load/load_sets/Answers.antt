@@ -24,5 +24,5 @@ loop-i-again c =
     c .loop-i .inv
     ∙ fill-more (target-set (c .args .reader .place) (c .args .reader .size) (c .args .count)) (sets-of (c .loop-i .sets)) (c .args .n) (c .loop-i .i) (c .loop-i .left .now) (c .in-Continue-set .set) (c .in-Continue-set .after .now) (omega arith) (sym (c .in-Continue-set .ensures tt))
     ∙ ap (λ (l : List ℕ). behind l (many (target-set (c .args .reader .place) (c .args .reader .size) (c .args .count)) (c .args .n - (c .loop-i .i + 1)) (c .in-Continue-set .after .now)))
-      (fill-push (λ (s : RegionSet). s .0) (vec-items (c .loop-i .sets)) (vec-items (c .push .last .self)) x
-       (pushed (x ∷ []) refl (c .in-Continue-push .was tt) (c .push .ensures .items)))
+    (fill-push (λ (s : RegionSet). s .0) (vec-items (c .loop-i .sets)) (vec-items (c .push .last .self)) x
+    (pushed (x ∷ []) refl (c .in-Continue-push .was tt) (c .push .ensures .items)))

@@ -17,4 +17,4 @@ pub loop-i-again : need.loop-i-again
 loop-i-again c =
     c .loop-i .inv
     ∙ many-more (row (c .args .self .place) (c .args .self .size) (c .args .count)) (c .args .count) (c .loop-i .i) (c .loop-i .left .now) (c .in-Continue-left .left .now)
-      (omega arith) (c .in-Continue-left .ensures tt)
+    (omega arith) (c .in-Continue-left .ensures tt)

@@ -18,4 +18,4 @@ pub loop-i-again : need.loop-i-again
 loop-i-again c =
     c .loop-i .inv
     ∙ many-more (target-set (c .args .self .place) (c .args .self .size) (c .args .count)) (c .args .n) (c .loop-i .i) (c .loop-i .left .now) (c .in-Continue-after .after .now)
-      (omega arith) (ap rest-of (c .in-Continue-after .ensures tt))
+    (omega arith) (ap rest-of (c .in-Continue-after .ensures tt))

@@ -25,10 +25,10 @@ pub returns : need.returns
 returns c =
     let head : List ℕ = 1 ∷ length (table-of (c .args .self .now)) ∷ [] in
     let n : length (c .regions-regions .result .now) ≡ length (table-of (c .args .self .now)) = ap length (c .regions-regions .ensures) ∙ sym (region-count (c .args .self .now)) in
-    record
-      { end = items-end encode-row row-of (c .regions-regions .result .now) (vec-items (c .args .self .now .regions)) (c .regions-regions .ensures) (c .args .out .now) head (c .args .at) (c .pre)
-          (c .put-rows .result) (c .put-all .result) (c .put-rows .ensures .end) (c .put-all .ensures .end)
-      ; output = items-output encode-row row-of (c .regions-regions .result .now) (vec-items (c .args .self .now .regions)) (c .regions-regions .ensures) (c .args .out .now) head (c .args .at) (c .pre)
+    record {
+      end = items-end encode-row row-of (c .regions-regions .result .now) (vec-items (c .args .self .now .regions)) (c .regions-regions .ensures) (c .args .out .now) head (c .args .at) (c .pre)
+          (c .put-rows .result) (c .put-all .result) (c .put-rows .ensures .end) (c .put-all .ensures .end);
+      output = items-output encode-row row-of (c .regions-regions .result .now) (vec-items (c .args .self .now .regions)) (c .regions-regions .ensures) (c .args .out .now) head (c .args .at) (c .pre)
           (c .put-rows .last .out) (c .put-all .last .out) (c .put-rows .result) (c .put-rows .ensures .end)
-          (c .put-rows .ensures .output ∙ ap (λ (k : ℕ). pasted (c .args .out .now) (c .args .at) (1 ∷ k ∷ [])) n) (c .put-all .ensures .output)
-      }
+          (c .put-rows .ensures .output ∙ ap (λ (k : ℕ). pasted (c .args .out .now) (c .args .at) (1 ∷ k ∷ [])) n) (c .put-all .ensures .output);
+    }

@@ -16,9 +16,9 @@ put-all-requires c κs =
 pub returns : need.returns
 returns c =
     let head : List ℕ = c .args .self .now .earliest ∷ c .args .self .now .deadline ∷ [] in
-    record
-      { end = items-end word (λ (s : RegionSet). s .0) (c .deref .result .now) (vec-items (c .args .self .now .targets)) (c .deref .ensures .value) (c .args .out .now) head (c .args .at) (c .pre)
-          (c .put-sets .result) (c .put-all .result) (c .put-sets .ensures .end) (c .put-all .ensures .end)
-      ; output = items-output word (λ (s : RegionSet). s .0) (c .deref .result .now) (vec-items (c .args .self .now .targets)) (c .deref .ensures .value) (c .args .out .now) head (c .args .at) (c .pre)
-          (c .put-sets .last .out) (c .put-all .last .out) (c .put-sets .result) (c .put-sets .ensures .end) (c .put-sets .ensures .output) (c .put-all .ensures .output)
-      }
+    record {
+      end = items-end word (λ (s : RegionSet). s .0) (c .deref .result .now) (vec-items (c .args .self .now .targets)) (c .deref .ensures .value) (c .args .out .now) head (c .args .at) (c .pre)
+          (c .put-sets .result) (c .put-all .result) (c .put-sets .ensures .end) (c .put-all .ensures .end);
+      output = items-output word (λ (s : RegionSet). s .0) (c .deref .result .now) (vec-items (c .args .self .now .targets)) (c .deref .ensures .value) (c .args .out .now) head (c .args .at) (c .pre)
+          (c .put-sets .last .out) (c .put-all .last .out) (c .put-sets .result) (c .put-sets .ensures .end) (c .put-sets .ensures .output) (c .put-all .ensures .output);
+    }
