@@ -19,3 +19,4 @@ pub struct ContractLoop {
 
 pub mod load;
 pub mod parts;
+pub mod traffic;

@@ -15,6 +15,8 @@ use site_read::field::RecordReader;
 use site_read::records::Record;
 use std::alloc::Global;
 
+pub mod traffic;
+
 #[derive(Drop)]
 pub enum Place {
     Vacant,

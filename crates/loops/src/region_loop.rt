@@ -19,3 +19,5 @@ pub struct RegionLoop {
 
 pub mod load;
 pub mod parts;
+
+pub mod traffic;

@@ -1,1 +1,3 @@
 mod Assembled
+pub mod SiteLaws
+mod Grouped

@@ -1,3 +1,5 @@
 pub mod Held
 pub mod Joint
 pub mod Loaded
+pub mod SiteTraffic
+pub mod Group

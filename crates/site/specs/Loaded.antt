@@ -12,7 +12,7 @@ use Rattle.site.specs.declared.site.Site.{Site}
 use Rattle.site.specs.Held.{held-by}
 
 abbrev pub site-places : Site → Places
-site-places s = held-by (s .first) (s .second) (s .third) (s .fourth)
+site-places s = held-by (s .joined .left .left) (s .joined .left .right) (s .joined .right .left) (s .joined .right .right)
 
 -- the site holds what the file says; or the file's fault is answered, or want of memory, and the site is as it was
 abbrev pub Loaded : Result Places Fault → Site → Site → Result (Unit {0}) LoadFault → Type 0

@@ -17,6 +17,7 @@ use Rattle.site_read.proofs.Files.{files-are-read, only-files-are-read}
 use Rattle.loops.specs.declared.place.Place.{Place}
 use Rattle.loops.specs.declared.place.Place.the-variants.{Vacant, Region, Contract}
 use Rattle.loops.specs.Places.{place-table}
+use Rattle.loops.proofs.ContractLaws.{terms-lawful}
 use Rattle.site.specs.declared.site.Site.{Site}
 use Rattle.site.specs.Loaded.{site-places}
 use Rattle.site_write.specs.declared.write.WriteFault.{WriteFault}
@@ -34,16 +35,15 @@ part-more out o o′ acc part part′ end p e l s q =
 lawful-place : (p : Place) → Lawful-place (place-table p)
 lawful-place Vacant = tt
 lawful-place (Region x) = x .lawful
-lawful-place (Contract x) =
-    record { gap-low = x .gaps .0; gap-order = x .gaps .1; gap-high = x .gaps .2; hold-low = x .holds .0; hold-order = x .holds .1; hold-high = x .holds .2 }
+lawful-place (Contract x) = terms-lawful x
 
 lawful-site : (s : Site) → (loop-count (site-places s) ≡ 0 → ⊥) → Lawful-site (site-places s)
 lawful-site s some =
     record {
-      first = lawful-place (s .first);
-      second = lawful-place (s .second);
-      third = lawful-place (s .third);
-      fourth = lawful-place (s .fourth);
+      first = lawful-place (s .joined .left .left);
+      second = lawful-place (s .joined .left .right);
+      third = lawful-place (s .joined .right .left);
+      fourth = lawful-place (s .joined .right .right);
       order = s .order;
       some = some;
     }

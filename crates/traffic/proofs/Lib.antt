@@ -1,6 +1,7 @@
 pub mod Found
 pub mod Asked
+pub mod EmptyLaws
 mod Places
-mod Sound
+pub mod Sound
 mod Answering
 mod Nexts

@@ -1,10 +1,10 @@
 -- The verdict on a site file, and the line that says it.
 use Prim.Native.Nat.{ℕ}
 use mathlib.Core.List.{List, _++_}
-use mathlib.Core.Bool.{cond}
 use lib.Chars.{codes}
-use lib.Dec.{leb}
 use Rattle.std.specs.Written.{decimal}
+use Rattle.std.specs.declared.option.Option.{Option}
+use Rattle.std.specs.declared.option.Option.the-variants.{Some, None}
 use Rattle.std.specs.declared.result.Result.{Result}
 use Rattle.std.specs.declared.result.Result.the-variants.{Ok, Err}
 use Rattle.site_read.specs.declared.fault.Fault.{Fault}
@@ -12,16 +12,17 @@ use Rattle.site_read.specs.declared.fault.Report.{Report}
 use Rattle.site_read.specs.Faults.{report, told}
 use Rattle.site_read.specs.Format.{Places}
 use Rattle.site_read.specs.Sites.{site}
-use Rattle.site.specs.Joint.{joint-states}
+use Rattle.site.specs.Joint.{counted}
 use Rattle.verdict.specs.declared.Verdict.{Verdict}
 use Rattle.verdict.specs.declared.Verdict.the-variants.{States, Refused}
 
--- a site of more than 32,768 joint states is refused with number 9, for the whole file
-abbrev pub sized : ℕ → Verdict
-sized n = cond (leb n 32768) (States n) (Refused (told 9 0 0))
+-- a site over the limits is refused with number 9, for the whole file
+abbrev pub sized : Option ℕ → Verdict
+sized (Some n) = States n
+sized None = Refused (told 9 0 0)
 
 abbrev pub judged : Result Places Fault → Verdict
-judged (Ok p) = sized (joint-states p)
+judged (Ok p) = sized (counted p)
 judged (Err e) = Refused (report e)
 
 abbrev pub verdict-of : List ℕ → Verdict

@@ -13,14 +13,11 @@ use std::alloc::AllocError;
 use std::alloc::Global;
 use std::fmt;
 
-/// The most joint states that a site may have.
-pub const MOST_STATES: u64 = 32_768;
-
 /// What is said of a site file.
 #[derive(Clone, Copy, PartialEq, Eq, Debug)]
 pub enum Verdict {
     /// The site has this many joint states.
-    States(u64),
+    States(usize),
     Refused(Report),
 }
 
@@ -41,18 +38,18 @@ pub impl fmt::Display for Verdict as VerdictDisplay {
 }
 
 impl Verdict {
-    // On a site of so many joint states.
-    fn of_size(states: u64) -> Verdict
+    // On a site of so many joint states, absent over the limits.
+    fn of_states(states: Option<usize>) -> Verdict
         ensures { λ r. ⌜ r ≡ sized states ⌝ }
     {
-        if states > MOST_STATES {
-            return Verdict::Refused(Report {
+        match states {
+            Some(n) => Verdict::States(n),
+            None => Verdict::Refused(Report {
                 number: 9,
                 place: 0,
                 at: 0,
-            });
+            }),
         }
-        Verdict::States(states)
     }
 
     /// On a site file. An error is want of memory.
@@ -61,7 +58,7 @@ impl Verdict {
     {
         let mut site = Site::new();
         match site.load(heap, file) {
-            Ok(()) => Ok(Verdict::of_size(site.states())),
+            Ok(()) => Ok(Verdict::of_states(site.states())),
             Err(LoadFault::File(fault)) => Ok(Verdict::Refused(fault.report())),
             Err(LoadFault::Memory) => Err(AllocError),
         }

@@ -10,6 +10,7 @@ use loops::place::Place;
 use site_read::field::RecordReader;
 use site_read::records::read_records;
 use std::alloc::Global;
+use traffic::pair::Pair;
 
 impl Site {
     // The site that the records of a file hold.
@@ -22,11 +23,16 @@ impl Site {
         let second = Place::load(heap, RecordReader { place: 2, size }, found.second)?;
         let third = Place::load(heap, RecordReader { place: 3, size }, found.third)?;
         let fourth = Place::load(heap, RecordReader { place: 4, size }, found.fourth)?;
+        let left = Pair {
+            left: first,
+            right: second,
+        };
+        let right = Pair {
+            left: third,
+            right: fourth,
+        };
         Ok(Site {
-            first,
-            second,
-            third,
-            fourth,
+            joined: Pair { left, right },
         })
     }
 
