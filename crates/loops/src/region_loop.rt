@@ -19,5 +19,4 @@ pub struct RegionLoop {
 
 pub mod load;
 pub mod parts;
-
 pub mod traffic;
