@@ -2,7 +2,7 @@
 ghost use mathlib.Core.Path.{_≡_};
 ghost use Rattle.std.specs.Vec.{made};
 ghost use Rattle.std.specs.declared.option.Option.the-variants.{Some};
-ghost use Rattle.verdict.specs.Verdicts.{verdict-of, sized, line};
+ghost use Rattle.verdict.specs.Verdicts.{verdict-of, Tells, sized, line};
 use loops::load_fault::LoadFault;
 use site::site::Site;
 use site_read::fault::Report;
@@ -52,8 +52,8 @@ impl Verdict {
         }
     }
 
-    /// On a site file. An error is want of memory.
-    pub fn of(heap: Global, file: &[u8]) -> Result<Verdict, AllocError>
+    // What the code makes of a file.
+    fn judge(heap: Global, file: &[u8]) -> Result<Verdict, AllocError>
         ensures { λ r. ⌜ made r (λ v. v ≡ verdict-of (now (file .entry))) ⌝ }
     {
         let mut site = Site::new();
@@ -62,5 +62,13 @@ impl Verdict {
             Err(LoadFault::File(fault)) => Ok(Verdict::Refused(fault.report())),
             Err(LoadFault::Memory) => Err(AllocError),
         }
+    }
+
+    /// On a site file. An error is want of memory.
+    pub fn of(heap: Global, file: &[u8]) -> Result<Verdict, AllocError>
+        ensures value { λ r. ⌜ made r (λ v. v ≡ verdict-of (now (file .entry))) ⌝ }
+        ensures tells { λ r. ⌜ made r (Tells (now (file .entry))) ⌝ }
+    {
+        Verdict::judge(heap, file)
     }
 }
