@@ -28,14 +28,14 @@ abbrev pub encode : Table → List ℕ
 encode (by-regions rs) = 1 ∷ length rs ∷ joined encode-row rs
 encode (by-contract g) = 2 ∷ encode-gaps g
 
--- what a site's four places hold, in file order; an empty place holds no table
+-- what a site's four places hold, in file order; a vacant place holds no table
 pub record Places : Type 0 where
   pub first : Option Table
   pub second : Option Table
   pub third : Option Table
   pub fourth : Option Table
 
--- a place's record; an empty place has none
+-- a place's record; a vacant place has none
 abbrev pub placed : Option Table → List ℕ
 placed None = []
 placed (Some t) = encode t
@@ -52,7 +52,7 @@ abbrev pub file-of : Places → List ℕ
 file-of p =
     76 ∷ 75 ∷ 84 ∷ 0 ∷ 1 ∷ loop-count p ∷ (placed (p .first) ++ (placed (p .second) ++ (placed (p .third) ++ placed (p .fourth))))
 
--- no loop stands behind an empty place
+-- no loop stands behind a vacant place
 abbrev pub no-gap : Option Table → Option Table → Bool
 no-gap (Some t) q = true
 no-gap None None = true
