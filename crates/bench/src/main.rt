@@ -1,4 +1,6 @@
 //! Solves the site file on standard input as often as its one argument says, so that the time of a solve can be taken.
+#![tactic(auto)]
+
 use anyhow::anyhow;
 use game::solution::{Refusal, Tally, solve};
 use site::site::Site;

@@ -2,6 +2,8 @@
 //!
 //! A line of the table is a site file in hex, a colon, a blank and the verdict line that is expected; a line that
 //! begins with `#` is a comment. An accepted file is also written back.
+#![tactic(auto)]
+
 ghost use Rattle.std.specs.Prelude.{◌<◌, IfSome};
 
 use anyhow::anyhow;

@@ -1,4 +1,6 @@
 //! Reads a site file from standard input and prints the verdict on it.
+#![tactic(auto)]
+
 use std::io::Read;
 use verdict::Verdict;
 

@@ -4,6 +4,8 @@
 //!
 //! A line of a text file is a call: `permits M`, `pick`, `grant M`, `report S`, `permits M in S` or `spoiler M in S`, with
 //! a move M and a state S. Empty lines, and lines that begin with `#`, are skipped.
+#![tactic(auto)]
+
 use anyhow::anyhow;
 use game::solution::Refusal;
 use keeper::service::{Answer, Call, Keeper};

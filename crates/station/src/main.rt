@@ -1,6 +1,8 @@
 //! Runs slots on sites and prints what was done.
 //!
 //! `station SLOTS` takes the site file from standard input; `station SLOTS FILE...` takes each of the files in turn.
+#![tactic(auto)]
+
 use anyhow::anyhow;
 use game::solution::Refusal;
 use keeper::arming::synthesise;

@@ -1,4 +1,6 @@
 //! From a site file to the program's line: the number of joint states, or why the file is refused.
+#![tactic(auto)]
+
 ghost use Rattle.std.specs.Prelude.{◌≡◌, IfOk, Some};
 ghost use Rattle.verdict.specs.Verdicts.{verdict_of, Tells, sized, line};
 
