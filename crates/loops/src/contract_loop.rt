@@ -19,4 +19,4 @@ pub struct ContractLoop {
 
 pub mod load;
 pub mod parts;
-pub mod traffic;
+pub mod questions;

@@ -14,7 +14,7 @@ use site_read::field::RecordReader;
 use site_read::records::Record;
 use std::alloc::Global;
 
-pub mod traffic;
+pub mod questions;
 
 #[derive(Drop)]
 pub enum Place {

@@ -18,4 +18,4 @@ pub struct RegionLoop {
 
 pub mod load;
 pub mod parts;
-pub mod traffic;
+pub mod questions;
