@@ -31,12 +31,12 @@ module _ (x : RegionLoop) (items : List Region) (same : items ≡ vec_items x.re
       let k = inside in
       rw (region_row x i r inside here) at (next_end encode_row (table_of x) i 2 len (row_of r) (omega arith) e)
 
-pub region-len-len-requires : goal.region-len-len-requires
-region-len-len-requires c =
+pub region_len-len-requires : goal.region_len-len-requires
+region_len-len-requires c =
     few c.args.x.now c.regions-region-items.result.now c.regions-region-items.ensures c.loop-region.region-index c.region-item.result c.loop-region-test.true c.region-item.is
 
-pub overflow-add-len : goal.overflow-add-len
-overflow-add-len c =
+pub overflow_add-len : goal.overflow_add-len
+overflow_add-len c =
     let s = short c.args.x.now c.regions-region-items.result.now c.regions-region-items.ensures c.loop-region.region-index c.region-item.result c.loop-region-test.true c.region-item.is in
     let f = few_regions c.args.x.now in
     let n = ap length c.regions-region-items.ensures in
@@ -46,7 +46,7 @@ pub loop-region-preserved : goal.loop-region-preserved
 loop-region-preserved c =
     let s = short c.args.x.now c.regions-region-items.result.now c.regions-region-items.ensures c.loop-region.region-index c.region-item.result c.loop-region-test.true c.region-item.is in
     let e = next c.args.x.now c.regions-region-items.result.now c.regions-region-items.ensures c.loop-region.region-index c.region-item.result c.loop-region-test.true c.region-item.is c.loop-region.len c.loop-region.invariant.0 in
-    (ap (λ (m : ℕ). c.loop-region.len + m) c.region-len-len.ensures ∙ e, omega arith)
+    (ap (λ (m : ℕ). c.loop-region.len + m) c.region_len-len.ensures ∙ e, omega arith)
 
 pub returns : goal.returns
 returns c =

@@ -24,7 +24,7 @@ returns-then-out-wanted c =
     let l₃ = ap length (bytes _ _ e.third) in
     let l₄ = ap length (bytes _ _ e.fourth) in
     let n : loop_count p ≡ 0 → ⊥ = λ z. omega (arith, z, loops _ _ e.first, loops _ _ e.second, loops _ _ e.third, loops _ _ e.fourth) in
-    let l : 6 + c.place-len.result + c.place-len-2.result + c.place-len-3.result + c.place-len-4.result ≡ length (file_of p) = omega (arith, l₁, l₂, l₃, l₄, site_length p) in
+    let l : 6 + c.place_len.result + c.place_len-2.result + c.place_len-3.result + c.place_len-4.result ≡ length (file_of p) = omega (arith, l₁, l₂, l₃, l₄, site_length p) in
     record { answer = short_answer p c.args.out.now n _ l c.if-out-wanted.true; output = short_output p c.args.out.now n (omega (arith, l)); only_file = tt }
 
 pub returns : goal.returns
@@ -36,7 +36,7 @@ returns c =
     let b₂ = bytes _ _ e.second in
     let b₃ = bytes _ _ e.third in
     let b₄ = bytes _ _ e.fourth in
-    let count : c.place-loops.result + c.place-loops-2.result + c.place-loops-3.result + c.place-loops-4.result ≡ loop_count p
+    let count : c.place_loops.result + c.place_loops-2.result + c.place_loops-3.result + c.place_loops-4.result ≡ loop_count p
     = omega (arith, loops _ _ e.first, loops _ _ e.second, loops _ _ e.third, loops _ _ e.fourth) in
     let some : loop_count p ≡ 0 → ⊥ = λ z. omega (arith, z, count) in
     let l = site_length p in
@@ -52,20 +52,20 @@ returns c =
     let l₃ : length three ≡ length two + length (placed p.third) = length-append two (placed p.third) in
     let e₀ : c.put-mark.result ≡ 3 = c.put-mark.ensures.end in
     let e₁ : c.put-head.result ≡ 6 = c.put-head.ensures.end ∙ ap (λ (k : ℕ). k + 3) e₀ in
-    let e₂ : c.put-at-one.result ≡ length one = omega (arith, c.put-at-one.ensures.end, ap length b₁, e₁, l₁) in
-    let e₃ : c.put-at-two.result ≡ length two = omega (arith, c.put-at-two.ensures.end, ap length b₂, e₂, l₂) in
-    let e₄ : c.put-at-three.result ≡ length three = omega (arith, c.put-at-three.ensures.end, ap length b₃, e₃, l₃) in
-    let end : c.put-at.result ≡ length (file_of p) = omega (arith, c.put-at.ensures.end, ap length b₄, e₄, l₃, l₂, l₁, l) in
+    let e₂ : c.put_at-one.result ≡ length one = omega (arith, c.put_at-one.ensures.end, ap length b₁, e₁, l₁) in
+    let e₃ : c.put_at-two.result ≡ length two = omega (arith, c.put_at-two.ensures.end, ap length b₂, e₂, l₂) in
+    let e₄ : c.put_at-three.result ≡ length three = omega (arith, c.put_at-three.ensures.end, ap length b₃, e₃, l₃) in
+    let end : c.put_at.result ≡ length (file_of p) = omega (arith, c.put_at.ensures.end, ap length b₄, e₄, l₃, l₂, l₁, l) in
     let s₁ : c.put-head.new.out ≡ pasted out 0 head
     = part_more out c.put-mark.new.out c.put-head.new.out mark (0 ∷ 1 ∷ loop_count p ∷ []) (0 ∷ 1 ∷ _ ∷ []) c.put-mark.result c.put-mark.ensures.output e₀ (omega (arith, fits, l))
     (ap (λ (k : ℕ). 0 ∷ 1 ∷ k ∷ []) count) c.put-head.ensures.output in
-    let s₂ = part_more out c.put-head.new.out c.put-at-one.new.out head (placed p.first) _ c.put-head.result s₁ e₁ (omega (arith, fits, l)) b₁ c.put-at-one.ensures.output in
-    let s₃ = part_more out c.put-at-one.new.out c.put-at-two.new.out one (placed p.second) _ c.put-at-one.result s₂ e₂ (omega (arith, fits, l, l₁)) b₂ c.put-at-two.ensures.output in
-    let s₄ = part_more out c.put-at-two.new.out c.put-at-three.new.out two (placed p.third) _ c.put-at-two.result s₃ e₃ (omega (arith, fits, l, l₁, l₂)) b₃ c.put-at-three.ensures.output in
-    let s₅ = part_more out c.put-at-three.new.out c.put-at.new.out three (placed p.fourth) _ c.put-at-three.result s₄ e₄ (omega (arith, fits, l, l₁, l₂, l₃)) b₄ c.put-at.ensures.output in
-    let all : c.put-at.new.out ≡ pasted out 0 (file_of p) = s₅ ∙ ap (pasted out 0) (regrouped p) in
+    let s₂ = part_more out c.put-head.new.out c.put_at-one.new.out head (placed p.first) _ c.put-head.result s₁ e₁ (omega (arith, fits, l)) b₁ c.put_at-one.ensures.output in
+    let s₃ = part_more out c.put_at-one.new.out c.put_at-two.new.out one (placed p.second) _ c.put_at-one.result s₂ e₂ (omega (arith, fits, l, l₁)) b₂ c.put_at-two.ensures.output in
+    let s₄ = part_more out c.put_at-two.new.out c.put_at-three.new.out two (placed p.third) _ c.put_at-two.result s₃ e₃ (omega (arith, fits, l, l₁, l₂)) b₃ c.put_at-three.ensures.output in
+    let s₅ = part_more out c.put_at-three.new.out c.put_at.new.out three (placed p.fourth) _ c.put_at-three.result s₄ e₄ (omega (arith, fits, l, l₁, l₂, l₃)) b₄ c.put_at.ensures.output in
+    let all : c.put_at.new.out ≡ pasted out 0 (file_of p) = s₅ ∙ ap (pasted out 0) (regrouped p) in
     record {
-      answer = written_answer p out some c.put-at.result end fits;
-      output = written_output p out some c.put-at.new.out fits all;
-      only_file = only_file c.args.site.now out c.put-at.new.out c.put-at.result some end all;
+      answer = written_answer p out some c.put_at.result end fits;
+      output = written_output p out some c.put_at.new.out fits all;
+      only_file = only_file c.args.site.now out c.put_at.new.out c.put_at.result some end all;
     }

@@ -7,8 +7,8 @@ use Rattle.site_write.proofs.written.put_all.Goals as goal
 pub loop-item-init : goal.loop-item-init
 loop-item-init g c = (omega arith, sym (pasted_none c.args.out.now c.args.at))
 
-pub put-at-end-requires : goal.put-at-end-requires
-put-at-end-requires g c =
+pub put_at-end-requires : goal.put_at-end-requires
+put_at-end-requires g c =
     let f = rw (← c.item-item.is) at (next_fits g.T.Written.bytes c.args.items.now c.loop-item.item-index c.item-item.result c.loop-item-test.true) in
     omega (arith, f, c.loop-item.invariant.0, c.loop-item.auto.out, c.requires)
 
@@ -22,7 +22,7 @@ loop-item-preserved g c =
     let room : c.loop-item.end ≤ length c.args.out.now = omega (arith, f, c.loop-item.invariant.0, c.requires) in
     let e = next_end g.T.Written.bytes c.args.items.now i c.args.at c.loop-item.end x h c.loop-item.invariant.0 in
     let o = next_output g.T.Written.bytes c.args.out.now c.loop-item.out c.args.items.now i c.args.at c.loop-item.end x h c.loop-item.invariant.0 room c.loop-item.invariant.1 in
-    (c.put-at-end.ensures.end ∙ (rw at at e), c.put-at-end.ensures.output ∙ (rw at at o))
+    (c.put_at-end.ensures.end ∙ (rw at at e), c.put_at-end.ensures.output ∙ (rw at at o))
 
 pub returns : goal.returns
 returns g c =

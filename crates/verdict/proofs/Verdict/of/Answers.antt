@@ -4,4 +4,4 @@ use Rattle.verdict.proofs.Verdict.of.Goals as goal
 
 pub returns : goal.returns
 returns c =
-    record { value = c.judge.ensures; tells = made_told c.args.file.now (bytes_from c.args.file.now (λ i. (c.type-inv.file i).fits)) c.judge.result c.judge.ensures }
+    record { value = c.judge.ensures; tells = made_told c.args.file.now (bytes_from c.args.file.now (λ i. (c.type_inv.file i).fits)) c.judge.result c.judge.ensures }

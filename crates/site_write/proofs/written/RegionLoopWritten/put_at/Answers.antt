@@ -7,11 +7,11 @@ use Rattle.site_write.specs.Paste.{pasted}
 use Rattle.site_write.proofs.Pastes.{items_fit, items_end, items_output}
 use Rattle.site_write.proofs.written.RegionLoopWritten.put_at.Goals as goal
 
-pub overflow-cast-regions : goal.overflow-cast-regions
-overflow-cast-regions c = let f = few_regions c.args.self.now in omega (arith, f, ap length c.regions-regions.ensures)
+pub overflow_cast-regions : goal.overflow_cast-regions
+overflow_cast-regions c = let f = few_regions c.args.self.now in omega (arith, f, ap length c.regions-regions.ensures)
 
-pub put-all-requires : goal.put-all-requires
-put-all-requires c =
+pub put_all-requires : goal.put_all-requires
+put_all-requires c =
     let head : List ℕ = 1 ∷ length (table_of c.args.self.now) ∷ [] in
     items_fit encode_row row_of c.regions-regions.result.now (vec_items c.args.self.now.regions) c.regions-regions.ensures c.args.out.now head c.args.at c.requires
     c.put-rows.new.out c.put-rows.result (omega arith) c.put-rows.ensures.end
@@ -22,8 +22,8 @@ returns c =
     let n : length c.regions-regions.result.now ≡ length (table_of c.args.self.now) = ap length c.regions-regions.ensures ∙ sym (region_count c.args.self.now) in
     record {
       end = items_end encode_row row_of c.regions-regions.result.now (vec_items c.args.self.now.regions) c.regions-regions.ensures c.args.out.now head c.args.at c.requires
-          c.put-rows.result c.put-all.result c.put-rows.ensures.end c.put-all.ensures.end;
+          c.put-rows.result c.put_all.result c.put-rows.ensures.end c.put_all.ensures.end;
       output = items_output encode_row row_of c.regions-regions.result.now (vec_items c.args.self.now.regions) c.regions-regions.ensures c.args.out.now head c.args.at c.requires
-          c.put-rows.new.out c.put-all.new.out c.put-rows.result c.put-rows.ensures.end
-          (c.put-rows.ensures.output ∙ ap (λ (k : ℕ). pasted c.args.out.now c.args.at (1 ∷ k ∷ [])) n) c.put-all.ensures.output;
+          c.put-rows.new.out c.put_all.new.out c.put-rows.result c.put-rows.ensures.end
+          (c.put-rows.ensures.output ∙ ap (λ (k : ℕ). pasted c.args.out.now c.args.at (1 ∷ k ∷ [])) n) c.put_all.ensures.output;
     }
