@@ -1,5 +1,5 @@
 -- The turns of a loop that fills a `Vec` with what `many` reads.
-use Rattle.std.proofs.Common.{◌≡◌, ℕ, zero, suc, ◌+◌, ◌-◌, ◌<◌, ◌≤◌, List, [], ◌∷◌, ◌++◌, map, Ok, Err, Result, sym, refl, ap, ◌∙◌, append_assoc, append-nil, arith}
+use Rattle.std.proofs.Common.{◌≡◌, ℕ, suc, ◌+◌, ◌-◌, ◌<◌, ◌≤◌, List, [], ◌∷◌, ◌++◌, map, Ok, Err, Result, sym, refl, ap, ◌∙◌, append_assoc, append-nil, arith}
 use Rattle.site_read.specs.declared.fault.Fault.{Fault}
 use Rattle.std.proofs.lemmas.List.{map_push}
 use Rattle.loops.specs.declared.load_fault.LoadFault.{LoadFault}

@@ -1,8 +1,7 @@
 -- The site of a file, from its four records.
 use Rattle.std.proofs.Common.{◌≡◌, ℕ, true, List, length, Ok, Err, Option, Result, sym, refl, ap, ◌∙◌}
-use Rattle.site_read.specs.declared.fault.Fault.{Fault}
 use Rattle.site_read.specs.Tables.{Table}
-use Rattle.site_read.specs.Format.{Bytes, Places, in_order, LawfulSite, file_of}
+use Rattle.site_read.specs.Format.{Bytes, Places, in_order}
 use Rattle.site_read.specs.Records.{Pieces, pieces}
 use Rattle.site_read.specs.Sites.{piece_table, file_tables, site}
 use Rattle.site_read.proofs.Sound.{never}

@@ -1,11 +1,11 @@
 -- A record's part of the file, by the kind that it begins with.
-use Rattle.std.proofs.Common.{◌≡◌, ℕ, zero, suc, ◌+◌, ◌-◌, ◌<◌, ◌≤◌, List, [], ◌∷◌, length, get_or, take, drop, Ok, Err, Result, sym, refl, ap, ◌∙◌, subst, arith}
+use Rattle.std.proofs.Common.{◌≡◌, ℕ, ◌-◌, List, [], ◌∷◌, length, get_or, take, drop, Ok, Err, Result, refl, ap, arith}
 use native.Mathlib.Nat.{sub-zero}
 use Rattle.std.proofs.lemmas.List.{take_rest}
 use Rattle.site_read.specs.declared.fault.Fault.{Fault}
 use Rattle.site_read.specs.Parse.{Parsed, then, rest_of}
-use Rattle.site_read.specs.Tables.{Row, Gaps, Table, by_regions, by_contract}
-use Rattle.site_read.specs.Fields.{regions, gaps, table}
+use Rattle.site_read.specs.Tables.{Table, by_regions, by_contract}
+use Rattle.site_read.specs.Fields.{regions, gaps}
 use Rattle.site_read.specs.Records.{Piece, region_piece, contract_piece, piece, before, record_of}
 
 -- the record of a given kind, once it is known what its fields leave

@@ -1,11 +1,10 @@
 -- Reading the bytes of a lawful table gives the table back.
-use Rattle.std.proofs.Common.{◌≡◌, ℕ, zero, suc, ◌+◌, ◌-◌, ◌*◌, ◌/◌, ◌%◌, ◌^◌, ◌<◌, ◌≤◌, Bool, true, false, cond, ◌&&◌, eqb, ltb, leb, List, [], ◌∷◌, ◌++◌, length, Ok, Err, Result, sym, refl, ap, ◌∙◌, append_assoc, arith, pow_mono}
+use Rattle.std.proofs.Common.{◌≡◌, ℕ, ◌+◌, ◌-◌, ◌*◌, ◌/◌, ◌%◌, ◌^◌, ◌<◌, ◌≤◌, Bool, true, false, ◌&&◌, eqb, ltb, leb, List, [], ◌∷◌, ◌++◌, length, Ok, refl, append_assoc, arith, pow_mono}
 use Rattle.std.specs.List.{flat_map}
 use Rattle.std.proofs.lemmas.Bool.{and_parts, and_from, eqb-true, le-leb, leb-true, ltb-true, false≢true}
-use Rattle.site_read.specs.declared.fault.Fault.{Fault}
-use Rattle.site_read.specs.Parse.{Parsed, then, many}
+use Rattle.site_read.specs.Parse.{Parsed, many}
 use Rattle.site_read.specs.Tables.{Row, Gaps, Table, by_regions, by_contract, every, lawful_set, lawful_row, lawful_rows, LawfulGaps, Lawful}
-use Rattle.site_read.specs.Fields.{ranged, target_set, row, regions, gaps, table}
+use Rattle.site_read.specs.Fields.{target_set, row, regions, gaps, table}
 use Rattle.site_read.specs.Format.{word, encode_row, encode_gaps, encode}
 
 within : (low high x : ℕ) → low ≤ x → x ≤ high → (leb low x && leb x high) ≡ true

@@ -1,15 +1,14 @@
 -- Which files are read, and as which sites.
-use Rattle.std.proofs.Common.{◌≡◌, ℕ, zero, suc, ◌+◌, ◌-◌, ◌*◌, ◌<◌, ◌≤◌, Bool, true, false, cond, ◌&&◌, leb, List, [], ◌∷◌, ◌++◌, length, Some, None, Ok, Err, Option, Result, sym, refl, ap, ◌∙◌, ap₂, append-nil, arith}
-use Rattle.std.proofs.lemmas.Bool.{and_from, le-leb, leb-true, lt-leb, leb-false, false≢true}
+use Rattle.std.proofs.Common.{◌≡◌, ℕ, zero, suc, ◌+◌, ◌<◌, ◌≤◌, Bool, true, false, cond, leb, List, [], ◌∷◌, ◌++◌, length, Some, None, Ok, Err, Option, sym, refl, ap, ◌∙◌, ap₂, append-nil, arith}
+use Rattle.std.proofs.lemmas.Bool.{le-leb, leb-true, lt-leb, leb-false, false≢true}
 use Rattle.site_read.specs.declared.fault.Fault.{Fault}
-use Rattle.site_read.specs.declared.fault.Fault.TheVariants.{Trailing}
 use Rattle.site_read.specs.Header.{header}
-use Rattle.site_read.specs.Parse.{Parsed, then}
-use Rattle.site_read.specs.Tables.{Table, Lawful}
+use Rattle.site_read.specs.Parse.{then}
+use Rattle.site_read.specs.Tables.{Table}
 use Rattle.site_read.specs.Fields.{table}
-use Rattle.site_read.specs.Format.{Bytes, encode, Places, placed, held, loop_count, file_of, no_gap, in_order, LawfulPlace, LawfulSite}
-use Rattle.site_read.specs.Sites.{slot_table, site, FilesAreRead, OnlyFilesAreRead}
-use Rattle.site_read.proofs.Sound.{never, same_ok, then_ok, cond_ok, all_three, table_lawful}
+use Rattle.site_read.specs.Format.{Bytes, encode, Places, placed, held, loop_count, file_of, no_gap, LawfulPlace}
+use Rattle.site_read.specs.Sites.{slot_table, FilesAreRead, OnlyFilesAreRead}
+use Rattle.site_read.proofs.Sound.{never, same_ok, then_ok, all_three, table_lawful}
 use Rattle.site_read.proofs.Decoded.{decodes, three_parts}
 use Rattle.site_read.proofs.Encoded.{encodes, bytes_after}
 use Rattle.site_read.proofs.Headers.{header_exact, header_back}

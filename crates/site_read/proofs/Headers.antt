@@ -1,11 +1,10 @@
 -- An accepted header, byte by byte.
-use Rattle.std.proofs.Common.{◌≡◌, ℕ, ◌+◌, ◌*◌, ◌<◌, ◌≤◌, Bool, true, false, cond, ◌&&◌, eqb, ltb, leb, List, [], ◌∷◌, Ok, Err, Result, sym, refl, ap, ◌∙◌, arith}
-use Rattle.std.proofs.lemmas.Bool.{and_parts, and_from, eqb-true, leb-true, le-leb, ltb-true}
+use Rattle.std.proofs.Common.{◌≡◌, ℕ, ◌+◌, ◌*◌, ◌≤◌, Bool, true, false, cond, ◌&&◌, eqb, leb, List, [], ◌∷◌, Ok, Err, Result, refl, ap, ◌∙◌, arith}
+use Rattle.std.proofs.lemmas.Bool.{and_parts, and_from, eqb-true, leb-true, le-leb}
 use Rattle.site_read.specs.declared.fault.Fault.{Fault}
 use Rattle.site_read.specs.declared.fault.Fault.TheVariants.{LoopCount}
 use Rattle.site_read.specs.Header.{mark_fault, version_fault, mark, version, loops, header}
-use Rattle.site_read.specs.Parse.{Parsed, then}
-use Rattle.site_read.specs.Tables.{every}
+use Rattle.site_read.specs.Parse.{then}
 use Rattle.site_read.specs.Format.{Bytes}
 use Rattle.site_read.proofs.Sound.{never, same_ok, then_ok, cond_ok}
 use Rattle.site_read.proofs.Encoded.{bytes_after}

@@ -1,5 +1,5 @@
 -- The turns of a loop over `many`.
-use Rattle.std.proofs.Common.{◌≡◌, ℕ, zero, suc, ◌+◌, ◌-◌, ◌<◌, ◌≤◌, List, [], ◌∷◌, Ok, Err, Result, sym, refl, ap, ◌∙◌, arith}
+use Rattle.std.proofs.Common.{◌≡◌, ℕ, suc, ◌+◌, ◌-◌, ◌<◌, ◌≤◌, List, ◌∷◌, Ok, Err, Result, sym, refl, ap, ◌∙◌, arith}
 use Rattle.site_read.specs.declared.fault.Fault.{Fault}
 use Rattle.site_read.specs.Parse.{Parsed, then, many, rest_of}
 

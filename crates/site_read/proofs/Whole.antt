@@ -1,17 +1,17 @@
 -- Loading the records of a file gives the tables of the file.
-use Rattle.std.proofs.Common.{◌≡◌, ℕ, zero, suc, ◌+◌, ◌-◌, ◌*◌, ◌<◌, ◌≤◌, Bool, true, false, cond, ◌&&◌, eqb, ltb, leb, List, [], ◌∷◌, ◌++◌, length, get_or, take, drop, Some, None, Ok, Err, Option, Result, sym, refl, ap, ◌∙◌, subst, append-nil, arith}
+use Rattle.std.proofs.Common.{◌≡◌, ℕ, suc, ◌-◌, ◌<◌, Bool, true, false, cond, ltb, leb, List, [], ◌∷◌, ◌++◌, length, get_or, take, Some, None, Ok, Err, Option, Result, sym, refl, ap, ◌∙◌, append-nil, arith}
 use Rattle.std.specs.List.{flat_map}
 use Rattle.std.proofs.lemmas.List.{take_at, length-append}
-use Rattle.std.proofs.lemmas.Bool.{and_parts, and_from, lt-ltb, eqb-true, leb-true}
+use Rattle.std.proofs.lemmas.Bool.{and_from, lt-ltb}
 use Rattle.site_read.specs.declared.fault.Fault.{Fault}
-use Rattle.site_read.specs.declared.fault.Fault.TheVariants.{Kind, LoopCount, Trailing}
-use Rattle.site_read.specs.Header.{mark_fault, version_fault, mark, version, loops, header}
-use Rattle.site_read.specs.Parse.{Parsed, then, many, value_of}
-use Rattle.site_read.specs.Tables.{Row, Gaps, Table, by_regions, by_contract, every, lawful_rows, Lawful, LawfulGaps}
-use Rattle.site_read.specs.Fields.{ranged, row, regions, gaps, table}
-use Rattle.site_read.specs.Format.{encode, encode_row, encode_gaps, Bytes, Places}
+use Rattle.site_read.specs.declared.fault.Fault.TheVariants.{Trailing}
+use Rattle.site_read.specs.Header.{header}
+use Rattle.site_read.specs.Parse.{Parsed, then}
+use Rattle.site_read.specs.Tables.{Table, by_regions, by_contract, every, Lawful}
+use Rattle.site_read.specs.Fields.{regions, table}
+use Rattle.site_read.specs.Format.{encode, encode_row, Bytes, Places}
 use Rattle.site_read.specs.Sites.{piece_table, slot_table, file_tables, site}
-use Rattle.site_read.specs.Records.{Piece, Pieces, piece, before, record_of, slot, pieces}
+use Rattle.site_read.specs.Records.{Piece, Pieces, piece, before, slot}
 use Rattle.site_read.proofs.Sound.{table_lawful}
 use Rattle.site_read.proofs.Decoded.{gaps_back, regions_back}
 use Rattle.site_read.proofs.Encoded.{encodes, bytes_after}

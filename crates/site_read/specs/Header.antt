@@ -1,6 +1,6 @@
 -- The header of a site file, field by field: the mark LKT, the version 1 in two bytes, the number of loops, 1 to 4.
 -- In each field it is asked first whether the file has it whole.
-use Rattle.std.specs.Prelude.{ℕ, ◌+◌, ◌*◌, Bool, true, false, cond, ◌&&◌, List, [], ◌∷◌, Ok, Err, Result, ◌==◌, nat_le}
+use Rattle.std.specs.Prelude.{ℕ, ◌+◌, ◌*◌, cond, ◌&&◌, List, [], ◌∷◌, Ok, Err, Result, ◌==◌, nat_le}
 use Rattle.site_read.specs.declared.fault.Fault.{Fault}
 use Rattle.site_read.specs.declared.fault.Fault.TheVariants.{Truncated, Mark, Version, LoopCount}
 use Rattle.site_read.specs.Parse.{Parsed, then}

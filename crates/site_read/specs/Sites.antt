@@ -7,7 +7,7 @@ use Rattle.site_read.specs.Parse.{Parsed, then}
 use Rattle.site_read.specs.Tables.{Table, by_regions, by_contract}
 use Rattle.site_read.specs.Fields.{regions, gaps, table}
 use Rattle.site_read.specs.Format.{Bytes, Places, LawfulSite, file_of}
-use Rattle.site_read.specs.Records.{Piece, region_piece, contract_piece, Pieces, pieces}
+use Rattle.site_read.specs.Records.{Piece, region_piece, contract_piece, pieces}
 
 -- the table of loop `place`, in a file of `count` loops
 abbrev pub slot_table : ℕ → ℕ → ℕ → List ℕ → Parsed (Option Table)

@@ -1,8 +1,8 @@
 -- Writing a site, place after place.
-use Rattle.std.proofs.Common.{◌≡◌, ℕ, ◌+◌, ◌<◌, ◌≤◌, true, eqb, leb, List, [], ◌∷◌, ◌++◌, length, take, drop, Ok, Err, Result, sym, refl, ap, ◌∙◌, ap₂, append_assoc, zero-add, arith}
+use Rattle.std.proofs.Common.{◌≡◌, ℕ, ◌+◌, ◌<◌, ◌≤◌, List, [], ◌∷◌, ◌++◌, length, take, drop, Ok, Err, sym, refl, ap, ◌∙◌, ap₂, append_assoc, zero-add, arith}
 use Rattle.std.proofs.lemmas.List.{length-append, take_at}
 use Rattle.std.proofs.lemmas.Bool.{le-leb, lt-leb, ne_eqb}
-use Rattle.site_read.specs.Format.{Bytes, Places, placed, held, loop_count, file_of, LawfulPlace, LawfulSite}
+use Rattle.site_read.specs.Format.{Places, placed, loop_count, file_of, LawfulPlace, LawfulSite}
 use Rattle.site_read.specs.Sites.{site}
 use Rattle.site_read.proofs.Files.{files_are_read, only_files_are_read}
 use Rattle.loops.specs.declared.place.Place.{Place}
@@ -11,8 +11,7 @@ use Rattle.loops.specs.Places.{place_table}
 use Rattle.loops.specs.ContractLaws.{terms_lawful}
 use Rattle.site.specs.declared.site.Site.{Site}
 use Rattle.site.specs.Loaded.{site_places}
-use Rattle.site_write.specs.declared.write.WriteFault.{WriteFault}
-use Rattle.site_write.specs.declared.write.WriteFault.TheVariants.{NoLoops, TooShort}
+use Rattle.site_write.specs.declared.write.WriteFault.TheVariants.{TooShort}
 use Rattle.site_write.specs.Paste.{pasted}
 use Rattle.site_write.specs.Writing.{write_answer, write_output, OnlyFile}
 use Rattle.site_write.proofs.Pastes.{pasted_more}

@@ -1,7 +1,6 @@
 -- The verdict on a site file, and the line that says it.
 use Rattle.std.specs.Prelude.{◌≡◌, ℕ, ◌<◌, ◌≤◌, List, ◌++◌, Some, None, Ok, Err, codes, decimal, Option, Result}
 use Rattle.site_read.specs.declared.fault.Fault.{Fault}
-use Rattle.site_read.specs.declared.fault.Report.{Report}
 use Rattle.site_read.specs.Faults.{report, told}
 use Rattle.site_read.specs.Format.{Places, LawfulSite, file_of}
 use Rattle.site_read.specs.Sites.{site}

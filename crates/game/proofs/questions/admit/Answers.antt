@@ -5,10 +5,10 @@ use Rattle.traffic.proofs.Asked.{size_is, size_none, size_some}
 use Rattle.game.proofs.Admitted.{answer_is, over_limits, short_map, no_such_state, Admitted, not_turned_away}
 use Rattle.game.proofs.questions.admit.Goals as goal
 
-pub returns-in-default : goal.returns-in-default
-returns-in-default g c =
+pub returns-in_default : goal.returns-in_default
+returns-in_default g c =
     let M : Meaning = g.T.Traffic.meaning c.args.traffic.now in
-    rw (over_limits M c.args.marks c.args.state (size_none M (sym c.in-default.ensures)))
+    rw (over_limits M c.args.marks c.args.state (size_none M (sym c.in_default.ensures)))
 
 pub returns-then-marks-size : goal.returns-then-marks-size
 returns-then-marks-size g c =

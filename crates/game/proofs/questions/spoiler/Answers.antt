@@ -6,9 +6,9 @@ use Rattle.game.proofs.Admitted.{answered, admitted, answer_is}
 use Rattle.game.proofs.Counsel.{leads_down}
 use Rattle.game.proofs.questions.spoiler.Goals as goal
 
-pub worst-next-requires : goal.worst-next-requires
-worst-next-requires g c =
-    let a = admitted _ _ _ (answered _ _ _ c.in-ok-admit.ensures).0 in
+pub worst_next-requires : goal.worst_next-requires
+worst_next-requires g c =
+    let a = admitted _ _ _ (answered _ _ _ c.in_ok-admit.ensures).0 in
     record { limits = a.limits; room = a.room }
 
 pub returns : goal.returns
@@ -17,6 +17,6 @@ returns g c =
     let map : List ℕ = c.args.map.now in
     let s : ℕ = c.args.state in
     let m : ℕ = c.args.mv in
-    let p = answered _ _ _ c.in-ok-admit.ensures in
-    let answer = answer_is _ (spoiler_by M (on map) s m) c.worst-next.result p.0 c.worst-next.ensures in
+    let p = answered _ _ _ c.in_ok-admit.ensures in
+    let answer = answer_is _ (spoiler_by M (on map) s m) c.worst_next.result p.0 c.worst_next.ensures in
     record { answer = answer; down = λ filled. leads_down M (g.met.T.Traffic.lawful c.args.traffic.now) map filled s m _ answer }

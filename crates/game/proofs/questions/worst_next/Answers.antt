@@ -6,14 +6,14 @@ use Rattle.game.specs.Standing.{on}
 use Rattle.game.proofs.Choosing.{threat_is, not_next, unmarked, FoundFirst, first_within, first_passed, first_kept, first_replaced, first_is_spoiler}
 use Rattle.game.proofs.questions.worst_next.Goals as goal
 use Rattle.game.proofs.questions.worst_next.Goals.{
-  then-map-t-gt0+then-comes-first,
+  then-map-t-gt0+then-comes_first,
   else-map-t-gt0,
-  else-map-t-gt0-via-then-map-t-gt0+else-comes-first,
+  else-map-t-gt0-via-then-map-t-gt0+else-comes_first,
   else-map-t-gt0-via-else-map-t-gt0,
 }
 
-pub offset-bounds-map-t : goal.offset-bounds-map-t
-offset-bounds-map-t g c =
+pub offset_bounds-map-t : goal.offset_bounds-map-t
+offset_bounds-map-t g c =
     let f = next_found (g.T.Traffic.meaning c.args.traffic.now) _ _ _ _ c.in-Some.ensures in
     search rules
 
@@ -22,8 +22,8 @@ bounds-map-t g c =
     let f = next_found (g.T.Traffic.meaning c.args.traffic.now) _ _ _ _ c.in-Some.ensures in
     omega (arith, c.requires.room)
 
-pub comes-first-requires : goal.comes-first-requires
-comes-first-requires g c =
+pub comes_first-requires : goal.comes_first-requires
+comes_first-requires g c =
     let M : Meaning = g.T.Traffic.meaning c.args.traffic.now in
     let f = next_found M _ _ _ _ c.in-Some.ensures in
     record {
@@ -33,8 +33,8 @@ comes-first-requires g c =
           c.loop-t.invariant;
     }
 
-pub overflow-add-from : goal.overflow-add-from
-overflow-add-from g c =
+pub overflow_add-from : goal.overflow_add-from
+overflow_add-from g c =
     let f = next_found (g.T.Traffic.meaning c.args.traffic.now) _ _ _ _ c.in-Some.ensures in
     search rules
 
@@ -53,15 +53,15 @@ loop-t-preserved g c =
     let t : ℕ = c.in-Some.t in
     let between : (u : ℕ) → c.loop-t.from ≤ u → u < t → threat M marks s m u ≡ false = λ u a b. not_next M marks s m u (f.1.before u a b) in
     elim c.if-map-t-gt0.branch [
-      | then-map-t-gt0+then-comes-first w ↦
+      | then-map-t-gt0+then-comes_first w ↦
           subst (FoundFirst M marks s m (t + 1)) (sym w.worst_is)
           (first_replaced M marks s m _ t f.1.low between c.loop-t.worst
-          (threat_is M marks s m t f.1.passes w.if-map-t-gt0.true) (sym w.if-comes-first.ensures) c.loop-t.invariant)
+          (threat_is M marks s m t f.1.passes w.if-map-t-gt0.true) (sym w.if-comes_first.ensures) c.loop-t.invariant)
       | else-map-t-gt0 w ↦
           subst (FoundFirst M marks s m (t + 1)) (sym w.worst_is)
           (elim w.else-map-t-gt0.branch [
-            | else-map-t-gt0-via-then-map-t-gt0+else-comes-first v ↦
-                first_kept M marks s m _ t f.1.low between c.loop-t.worst (sym v.if-comes-first.ensures) c.loop-t.invariant
+            | else-map-t-gt0-via-then-map-t-gt0+else-comes_first v ↦
+                first_kept M marks s m _ t f.1.low between c.loop-t.worst (sym v.if-comes_first.ensures) c.loop-t.invariant
             | else-map-t-gt0-via-else-map-t-gt0 v ↦
                 first_passed M marks s m _ t f.1.low between c.loop-t.worst (unmarked M marks s m t v.if-map-t-gt0.false) c.loop-t.invariant
           ])
@@ -70,6 +70,6 @@ loop-t-preserved g c =
 pub returns : goal.returns
 returns g c =
     let M : Meaning = g.T.Traffic.meaning c.args.traffic.now in
-    let none = next_none M _ _ _ c.requires.limits (sym c.in-default.ensures) in
+    let none = next_none M _ _ _ c.requires.limits (sym c.in_default.ensures) in
     first_is_spoiler M (on c.args.map.now) c.args.state c.args.mv (g.met.T.Traffic.lawful c.args.traffic.now) c.loop-t.from
     (λ u a b. not_next _ _ _ _ u (none u a b)) c.loop-t.worst c.loop-t.invariant

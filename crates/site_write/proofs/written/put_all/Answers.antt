@@ -1,6 +1,5 @@
-use Rattle.std.proofs.Common.{◌≡◌, ℕ, ◌+◌, ◌<◌, ◌≤◌, List, length, get_or, take, sym, ap, ◌∙◌, arith}
+use Rattle.std.proofs.Common.{◌≡◌, ℕ, ◌<◌, ◌≤◌, length, get_or, take, sym, ◌∙◌, arith}
 use Rattle.std.proofs.lemmas.List.{take_all}
-use Rattle.site_write.specs.Paste.{pasted}
 use Rattle.site_write.proofs.Pastes.{pasted_none, next_fits, next_end, next_output}
 use Rattle.site_write.proofs.written.put_all.Goals as goal
 

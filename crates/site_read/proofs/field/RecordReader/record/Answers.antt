@@ -1,4 +1,4 @@
-use Rattle.std.proofs.Common.{◌≡◌, Ok, Err, sym, ap, ◌∙◌, arith, rules}
+use Rattle.std.proofs.Common.{Ok, Err}
 use Rattle.std.proofs.lemmas.Result.{err_from_is_err_and}
 use Rattle.site_read.proofs.Cuts.{region_at, contract_at, front}
 use Rattle.site_read.proofs.field.RecordReader.record.Goals as goal
