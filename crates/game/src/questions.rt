@@ -14,7 +14,7 @@ use traffic::{Size, Traffic};
 
 /// The traffic's size, if a map of so many marks serves for a call about this state.
 pub fn admit<T: Traffic>(traffic: &T, marks: usize, state: usize) -> Result<Size, MapFault>
-    ensures { result ≡ unless (turned_away (meaning traffic.now) marks state) (sized (meaning traffic.now)) }
+    ensures { result ≡ unless (turned_away (T.meaning traffic.now) marks state) (sized (T.meaning traffic.now)) }
 {
     let Some(size) = traffic.size() else {
         return Err(MapFault::OverLimits);
@@ -35,8 +35,8 @@ pub fn permits<T: Traffic>(
     state: usize,
     mv: usize,
 ) -> Result<bool, MapFault>
-    ensures answer { result ≡ unless (turned_away (meaning traffic.now) (length map.now) state) (permitted_by (meaning traffic.now) (on map.now) state mv) }
-    ensures safe { Filled (meaning traffic.now) map.now → ExactlySafe (meaning traffic.now) state mv result }
+    ensures answer { result ≡ unless (turned_away (T.meaning traffic.now) (length map.now) state) (permitted_by (T.meaning traffic.now) (on map.now) state mv) }
+    ensures safe { Filled (T.meaning traffic.now) map.now → ExactlySafe (T.meaning traffic.now) state mv result }
 {
     admit(traffic, map.len(), state)?;
     Ok(standing_next(traffic, map, None, state, mv).is_some())
@@ -44,9 +44,9 @@ pub fn permits<T: Traffic>(
 
 // The lowest permitted move.
 fn lowest_permitted<T: Traffic>(traffic: &T, size: Size, map: &[u16], state: usize) -> Option<usize>
-    requires sized { size_of (meaning traffic.now) ≡ Some size }
+    requires sized { size_of (T.meaning traffic.now) ≡ Some size }
     requires room { size.states ≤ length map.now }
-    ensures { result ≡ pick_by (meaning traffic.now) (on map.now) state }
+    ensures { result ≡ pick_by (T.meaning traffic.now) (on map.now) state }
 {
     for mv in 0..=size.loops {
         if standing_next(traffic, map, None, state, mv).is_some() {
@@ -58,8 +58,8 @@ fn lowest_permitted<T: Traffic>(traffic: &T, size: Size, map: &[u16], state: usi
 
 /// The lowest permitted move of a state, so that silence comes first; absent where none is permitted.
 pub fn pick<T: Traffic>(traffic: &T, map: &[u16], state: usize) -> Result<Option<usize>, MapFault>
-    ensures answer { result ≡ unless (turned_away (meaning traffic.now) (length map.now) state) (pick_by (meaning traffic.now) (on map.now) state) }
-    ensures safe { Filled (meaning traffic.now) map.now → LowestSafe (meaning traffic.now) state result }
+    ensures answer { result ≡ unless (turned_away (T.meaning traffic.now) (length map.now) state) (pick_by (T.meaning traffic.now) (on map.now) state) }
+    ensures safe { Filled (T.meaning traffic.now) map.now → LowestSafe (T.meaning traffic.now) state result }
 {
     let size = admit(traffic, map.len(), state)?;
     Ok(lowest_permitted(traffic, size, map, state))
@@ -79,9 +79,9 @@ fn comes_first(map: &[u16], t: usize, found: Option<usize>) -> bool
 
 // The next state with the smallest mark above 0, the lower number among equals.
 fn worst_next<T: Traffic>(traffic: &T, map: &[u16], state: usize, mv: usize) -> Option<usize>
-    requires limits { within_limits (meaning traffic.now) ≡ true }
-    requires room { (meaning traffic.now).states ≤ length map.now }
-    ensures { result ≡ spoiler_by (meaning traffic.now) (on map.now) state mv }
+    requires limits { within_limits (T.meaning traffic.now) ≡ true }
+    requires room { (T.meaning traffic.now).states ≤ length map.now }
+    ensures { result ≡ spoiler_by (T.meaning traffic.now) (on map.now) state mv }
 {
     let mut worst = None;
     let mut from = 0;
@@ -102,8 +102,8 @@ pub fn spoiler<T: Traffic>(
     state: usize,
     mv: usize,
 ) -> Result<Option<usize>, MapFault>
-    ensures answer { result ≡ unless (turned_away (meaning traffic.now) (length map.now) state) (spoiler_by (meaning traffic.now) (on map.now) state mv) }
-    ensures down { Filled (meaning traffic.now) map.now → LeadsDown (meaning traffic.now) state mv result }
+    ensures answer { result ≡ unless (turned_away (T.meaning traffic.now) (length map.now) state) (spoiler_by (T.meaning traffic.now) (on map.now) state mv) }
+    ensures down { Filled (T.meaning traffic.now) map.now → LeadsDown (T.meaning traffic.now) state mv result }
 {
     admit(traffic, map.len(), state)?;
     Ok(worst_next(traffic, map, state, mv))

@@ -30,8 +30,8 @@ fn arm(start: usize, found: Result<Tally, Refusal>) -> Result<Armed, Refusal>
 
 // The answer, and the map afterwards.
 fn solve_and_arm<T: Traffic>(traffic: &T, start: usize, map: &mut [u16]) -> Result<Armed, Refusal>
-    ensures answer { result ≡ armed start (solved (meaning traffic.now) start map.old) }
-    ensures after { map.new ≡ map_after (meaning traffic.now) start map.old }
+    ensures answer { result ≡ armed start (solved (T.meaning traffic.now) start map.old) }
+    ensures after { map.new ≡ map_after (T.meaning traffic.now) start map.old }
 {
     let found = solve(traffic, start, map);
     arm(start, found)
@@ -39,9 +39,9 @@ fn solve_and_arm<T: Traffic>(traffic: &T, start: usize, map: &mut [u16]) -> Resu
 
 /// Fills the map, and arms a keeper at the start if it is safe there. Where there is no schedule there is no keeper.
 pub fn synthesise<T: Traffic>(traffic: &T, start: usize, map: &mut [u16]) -> Result<Armed, Refusal>
-    ensures answer { result ≡ armed start (solved (meaning traffic.now) start map.old) }
-    ensures after { map.new ≡ map_after (meaning traffic.now) start map.old }
-    ensures guarantee { Promised (meaning traffic.now) start map.old result map.new }
+    ensures answer { result ≡ armed start (solved (T.meaning traffic.now) start map.old) }
+    ensures after { map.new ≡ map_after (T.meaning traffic.now) start map.old }
+    ensures guarantee { Promised (T.meaning traffic.now) start map.old result map.new }
 {
     solve_and_arm(traffic, start, map)
 }

@@ -70,7 +70,7 @@ fn spoiled(answer: Result<Option<usize>, MapFault>) -> Answer
 
 // One call on a ready keeper.
 fn ask_ready<T: Traffic>(keeper: Ready, traffic: &T, map: &[u16], call: Call) -> (Keeper, Answer)
-    ensures { result ≡ stepped (meaning traffic.now) map.now (AtReady keeper) call }
+    ensures { result ≡ stepped (T.meaning traffic.now) map.now (AtReady keeper) call }
 {
     match call {
         Call::Permits(mv) => {
@@ -104,7 +104,7 @@ fn ask_waiting<T: Traffic>(
     map: &[u16],
     call: Call,
 ) -> (Keeper, Answer)
-    ensures { result ≡ stepped (meaning traffic.now) map.now (AtWaiting keeper) call }
+    ensures { result ≡ stepped (T.meaning traffic.now) map.now (AtWaiting keeper) call }
 {
     match call {
         Call::Report(to) => match keeper.report(traffic, map, to) {
@@ -127,7 +127,7 @@ fn ask_waiting<T: Traffic>(
 
 /// Performs one call.
 pub fn perform<T: Traffic>(keeper: Keeper, traffic: &T, map: &[u16], call: Call) -> (Keeper, Answer)
-    ensures { result ≡ stepped (meaning traffic.now) map.now keeper call }
+    ensures { result ≡ stepped (T.meaning traffic.now) map.now keeper call }
 {
     match keeper {
         Keeper::Ready(ready) => ask_ready(ready, traffic, map, call),

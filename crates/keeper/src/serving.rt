@@ -1,6 +1,6 @@
 //! Arming a keeper and serving a whole list of calls with it.
 ghost use Rattle.std.specs.Prelude.{◌≡◌, ◌≤◌, [], length, vec_capacity};
-ghost use Rattle.keeper.specs.Service.{answers as answersOf, after_calls};
+ghost use Rattle.keeper.specs.Service.{answers as answers_of, after_calls};
 ghost use Rattle.keeper.specs.Serving.{Serving, KeptPromise};
 
 use crate::arming::{Armed, synthesise};
@@ -32,8 +32,8 @@ fn perform_all<T: Traffic>(
     calls: &[Call],
 ) -> (Keeper, Vec<Answer>)
     requires { (room.items ≡ []) × (length calls.now ≤ vec_capacity room) }
-    ensures keeper { result.0 ≡ after_calls (meaning traffic.now) map.now armed calls.now }
-    ensures answers { result.1.items ≡ answersOf (meaning traffic.now) map.now armed calls.now }
+    ensures keeper { result.0 ≡ after_calls (T.meaning traffic.now) map.now armed calls.now }
+    ensures answers { result.1.items ≡ answers_of (T.meaning traffic.now) map.now armed calls.now }
 {
     let mut keeper = armed;
     let mut answers = room;
@@ -53,7 +53,7 @@ fn arm_and_perform<T: Traffic>(
     map: &mut [u16],
     calls: &[Call],
 ) -> Result<Served, ServeFault>
-    ensures { Serving (meaning traffic.now) start calls.now map.old map.new result }
+    ensures { Serving (T.meaning traffic.now) start calls.now map.old map.new result }
 {
     let Ok(room) = Vec::with_capacity(heap, calls.len()) else {
         return Err(ServeFault::Memory);
@@ -81,8 +81,8 @@ pub fn serve<T: Traffic>(
     map: &mut [u16],
     calls: &[Call],
 ) -> Result<Served, ServeFault>
-    ensures value { Serving (meaning traffic.now) start calls.now map.old map.new result }
-    ensures guarantee { KeptPromise (meaning traffic.now) start calls.now map.old map.new result }
+    ensures value { Serving (T.meaning traffic.now) start calls.now map.old map.new result }
+    ensures guarantee { KeptPromise (T.meaning traffic.now) start calls.now map.old map.new result }
 {
     arm_and_perform(heap, traffic, start, map, calls)
 }

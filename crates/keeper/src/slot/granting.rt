@@ -22,14 +22,14 @@ impl Ready {
 
     /// Whether a move is permitted in the state that it holds.
     pub fn permits<T: Traffic>(&self, traffic: &T, map: &[u16], mv: usize) -> Result<bool, MapFault>
-        ensures { result ≡ unless (turned_away (meaning traffic.now) (length map.now) self.now.state) (permitted_by (meaning traffic.now) (on map.now) self.now.state mv) }
+        ensures { result ≡ unless (turned_away (T.meaning traffic.now) (length map.now) self.now.state) (permitted_by (T.meaning traffic.now) (on map.now) self.now.state mv) }
     {
         permits(traffic, map, self.state, mv)
     }
 
     /// The lowest permitted move, absent where none is.
     pub fn pick<T: Traffic>(&self, traffic: &T, map: &[u16]) -> Result<Option<usize>, MapFault>
-        ensures { result ≡ unless (turned_away (meaning traffic.now) (length map.now) self.now.state) (pick_by (meaning traffic.now) (on map.now) self.now.state) }
+        ensures { result ≡ unless (turned_away (T.meaning traffic.now) (length map.now) self.now.state) (pick_by (T.meaning traffic.now) (on map.now) self.now.state) }
     {
         pick(traffic, map, self.state)
     }
@@ -41,7 +41,7 @@ impl Ready {
         map: &[u16],
         mv: usize,
     ) -> Result<Waiting, (SlotFault, Ready)>
-        ensures { result ≡ granted (meaning traffic.now) map.now self mv }
+        ensures { result ≡ granted (T.meaning traffic.now) map.now self mv }
     {
         match self.permits(traffic, map, mv) {
             Ok(true) => {

@@ -26,7 +26,7 @@ impl Waiting {
 
     // Whether a state is a next state of the granted move.
     fn takes<T: Traffic>(&self, traffic: &T, map: &[u16], to: usize) -> Result<bool, MapFault>
-        ensures { result ≡ unless (either (turned_away (meaning traffic.now) (length map.now) self.now.state) (turned_away (meaning traffic.now) (length map.now) to)) ((meaning traffic.now).leads self.now.state self.now.mv to) }
+        ensures { result ≡ unless (either (turned_away (T.meaning traffic.now) (length map.now) self.now.state) (turned_away (T.meaning traffic.now) (length map.now) to)) ((T.meaning traffic.now).leads self.now.state self.now.mv to) }
     {
         admit(traffic, map.len(), self.state)?;
         admit(traffic, map.len(), to)?;
@@ -43,7 +43,7 @@ impl Waiting {
         map: &[u16],
         to: usize,
     ) -> Result<Ready, (SlotFault, Waiting)>
-        ensures { result ≡ reported (meaning traffic.now) map.now self to }
+        ensures { result ≡ reported (T.meaning traffic.now) map.now self to }
     {
         match self.takes(traffic, map, to) {
             Ok(true) => Ok(Ready { state: to }),

@@ -54,11 +54,11 @@ loop-t-preserved g c =
     let between : (u : ℕ) → c.loop-t.from ≤ u → u < t → threat M marks s m u ≡ false = λ u a b. not_next M marks s m u (f.1.before u a b) in
     elim c.if-map-t-gt0.branch [
       | then-map-t-gt0+then-comes_first w ↦
-          subst (FoundFirst M marks s m (t + 1)) (sym w.worst_is)
+          subst (FoundFirst M marks s m (t + 1)) (sym w.worst-is)
           (first_replaced M marks s m _ t f.1.low between c.loop-t.worst
           (threat_is M marks s m t f.1.passes w.if-map-t-gt0.true) (sym w.if-comes_first.ensures) c.loop-t.invariant)
       | else-map-t-gt0 w ↦
-          subst (FoundFirst M marks s m (t + 1)) (sym w.worst_is)
+          subst (FoundFirst M marks s m (t + 1)) (sym w.worst-is)
           (elim w.else-map-t-gt0.branch [
             | else-map-t-gt0-via-then-map-t-gt0+else-comes_first v ↦
                 first_kept M marks s m _ t f.1.low between c.loop-t.worst (sym v.if-comes_first.ensures) c.loop-t.invariant
