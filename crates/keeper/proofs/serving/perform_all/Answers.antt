@@ -7,7 +7,7 @@ use Rattle.keeper.proofs.serving.perform_all.Goals as goal
 pub loop-call-preserved : goal.loop-call-preserved
 loop-call-preserved g c = (
   keeper_more _ _ c.loop-call.keeper c.args.calls.now c.loop-call.call-index _ c.perform-next.result c.loop-call-test.true c.perform-next.ensures ∙ c.loop-call.invariant.0,
-  answers_more _ _ c.loop-call.keeper c.args.calls.now c.loop-call.call-index _ c.perform-next.result c.loop-call-test.true c.perform-next.ensures (vec_items c.loop-call.answers) _ c.push-reserved.ensures.items ∙ c.loop-call.invariant.1,
+  answers_more _ _ c.loop-call.keeper c.args.calls.now c.loop-call.call-index _ c.perform-next.result c.loop-call-test.true c.perform-next.ensures (vec_items c.loop-call.answers) _ c.push_reserved.ensures.items ∙ c.loop-call.invariant.1,
   search rules,
   search rules,
 )
