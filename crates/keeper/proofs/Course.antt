@@ -15,8 +15,6 @@ use Rattle.game.proofs.Rules.{play_in, permitted_legal, permitted_next, lasts_pe
 use Rattle.game.proofs.Admitted.{not_turned_away, admitted, no_such_state}
 use Rattle.game.proofs.Choosing.{spoiler_same}
 use Rattle.game.proofs.Counsel.{permitted_is_safe, lowest_safe}
-use Rattle.keeper.specs.declared.slot.Ready.{Ready}
-use Rattle.keeper.specs.declared.slot.Waiting.{Waiting}
 use Rattle.keeper.specs.declared.service.Keeper.{Keeper}
 use Rattle.keeper.specs.declared.service.Keeper.TheVariants.{Ready as AtReady, Waiting as AtWaiting}
 use Rattle.keeper.specs.declared.service.Call.{Call}
@@ -25,7 +23,7 @@ use Rattle.keeper.specs.declared.service.Answer.{Answer}
 use Rattle.keeper.specs.declared.service.Answer.TheVariants.{Spoiled}
 use Rattle.keeper.specs.Slots.{granted_if, either, reported_if}
 use Rattle.keeper.specs.Service.{permitted_said, picked_said, spoiled_said, after_grant, after_report, stepped, answers, after_calls}
-use Rattle.keeper.specs.Promise.{ready, waiting, held, ForReady, Serves, Sound, Runs}
+use Rattle.keeper.specs.Promise.{ready, waiting, held, Serves, Sound, Runs}
 use Rattle.keeper.specs.Promise.ForReady.{asks, picks, grants}
 use Rattle.keeper.specs.Promise.Serves.{yes, no, picked, granted, turned_down, taken, not_taken, no_state, yes_in, no_in, no_state_in, spoiled, no_spoiler, not_waiting, not_ready}
 use Rattle.keeper.specs.Promise.Runs.{done, then}

@@ -9,8 +9,6 @@ use Rattle.game.specs.Plays.{Past, begin, Rule, Led, Safe}
 use Rattle.game.specs.Laws.{LeastCount}
 use Rattle.game.specs.Standing.{on}
 use Rattle.game.specs.Maps.{turned_away}
-use Rattle.keeper.specs.declared.slot.Ready.{Ready}
-use Rattle.keeper.specs.declared.service.Keeper.{Keeper}
 use Rattle.keeper.specs.declared.service.Keeper.TheVariants.{Ready as AtReady}
 use Rattle.keeper.specs.declared.service.Call.{Call}
 use Rattle.keeper.specs.declared.arming.Armed.{Armed}

@@ -1,5 +1,5 @@
 -- What a keeper promises, in the words of plays and rules.
-use Rattle.std.specs.Prelude.{◌≡◌, ℕ, ◌<◌, ◌≤◌, true, false, List, [], ◌∷◌, Some, Option}
+use Rattle.std.specs.Prelude.{◌≡◌, ℕ, ◌<◌, ◌≤◌, true, false, List, [], ◌∷◌, Some}
 use Rattle.traffic.specs.Meaning.{Meaning}
 use Rattle.game.specs.declared.map_fault.MapFault.TheVariants.{NoSuchState}
 use Rattle.game.specs.Game.{mark}
