@@ -1,6 +1,6 @@
 //! Why a site file is refused.
 ghost use Rattle.std.specs.Prelude.{◌≡◌};
-ghost use Rattle.site_read.specs.Faults.{report as reportOf, told as toldOf};
+ghost use Rattle.site_read.specs.Faults.{report as report_of, told as told_of};
 
 /// A fault of a file. `place` is the loop's number in the file, from 1; `at` is a byte's offset in the file.
 #[derive(Clone, Copy, PartialEq, Eq, Debug)]
@@ -32,14 +32,14 @@ pub struct Report {
 }
 
 fn told(number: u8, place: u8, at: usize) -> Report
-    ensures { result ≡ toldOf number place at }
+    ensures { result ≡ told_of number place at }
 {
     Report { number, place, at }
 }
 
 impl Fault {
     pub fn report(self) -> Report
-        ensures { result ≡ reportOf self }
+        ensures { result ≡ report_of self }
     {
         match self {
             Fault::Truncated { place, at } => told(1, place, at),

@@ -2,7 +2,7 @@
 ghost use Rattle.std.specs.Prelude.{◌≡◌, ◌-◌, ◌≤◌, length, IfOk};
 ghost use Rattle.site_read.specs.Parse.{seen};
 ghost use Rattle.site_read.specs.Tables.{lawful_set};
-ghost use Rattle.site_read.specs.Fields.{ranged as rangedOf, target_set};
+ghost use Rattle.site_read.specs.Fields.{ranged as ranged_of, target_set};
 
 use crate::fault::Fault;
 
@@ -30,7 +30,7 @@ impl RecordReader {
 
     /// A number from `low` to `high`, in one byte.
     pub fn ranged<'a>(self, rest: &'a [u8], low: u8, high: u8) -> Result<(u8, &'a [u8]), Fault>
-        ensures parsed { seen result ≡ rangedOf self.place self.size low high rest.now }
+        ensures parsed { seen result ≡ ranged_of self.place self.size low high rest.now }
         ensures bound { IfOk result (λ p. (low ≤ p.0) × (p.0 ≤ high)) }
     {
         let place = self.place;

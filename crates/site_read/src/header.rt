@@ -1,6 +1,6 @@
 //! The header of a site file: the mark, the version, the number of loops.
 ghost use Rattle.std.specs.Prelude.{◌≡◌};
-ghost use Rattle.site_read.specs.Header.{header as headerOf, mark_fault, version_fault};
+ghost use Rattle.site_read.specs.Header.{header as header_of, mark_fault, version_fault};
 ghost use Rattle.site_read.specs.Parse.{seen};
 
 use crate::fault::Fault;
@@ -34,7 +34,7 @@ fn check_version(high: u8, low: u8) -> Result<(), Fault>
 
 /// The number of loops, and the records behind the header.
 pub fn header(file: &[u8]) -> Result<(u8, &[u8]), Fault>
-    ensures { seen result ≡ headerOf file.now }
+    ensures { seen result ≡ header_of file.now }
 {
     match file {
         [m0, m1, m2, v0, v1, count, records @ ..] => {
