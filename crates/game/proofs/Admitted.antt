@@ -1,5 +1,6 @@
 -- When a call that is given a map is admitted, and what it is answered when it is not.
-use Rattle.std.proofs.Common.{◌≡◌, ℕ, ◌<◌, ◌≤◌, true, false, Some, None, Ok, Option, refl, ap, ◌∙◌, inl, inr, arith}
+use Rattle.std.proofs.Common.{◌≡◌, ℕ, ◌<◌, ◌≤◌, true, false, Some, None, Ok, Err, Option, refl, ap, ◌∙◌, inl, inr, arith}
+use Rattle.std.specs.Option.{ok_or}
 use Rattle.std.proofs.lemmas.Bool.{cases_Bool, cases_lt, cond-true, cond-false, lt-ltb, le-ltb, lt-leb, le-leb}
 use Rattle.traffic.specs.Meaning.{Meaning}
 use Rattle.traffic.specs.Answered.{within_limits}
@@ -14,6 +15,15 @@ answer_is o a b e q = rw e (ap Ok q)
 pub answered : {A : Type 0} (o : Option MapFault) (a b : A) → Ok b ≡ unless o a → (o ≡ None) × (b ≡ a)
 answered None a b e = (refl, cc)
 answered (Some f) a b e = let z : ◌≡◌ {A = ℕ} 0 1 = cc in absurd (omega arith)
+
+-- what an option was that was asked for its value or a fault
+pub ok_some : {A E : Type 0} (o : Option A) (e : E) (a : A) → ok_or o e ≡ Ok a → o ≡ Some a
+ok_some None e a h = cc h
+ok_some (Some b) e a h = cc h
+
+pub err_none : {A E : Type 0} (o : Option A) (e d : E) → ok_or o e ≡ Err d → (o ≡ None) × (d ≡ e)
+err_none None e d h = (refl, cc h)
+err_none (Some b) e d h = (cc h, cc h)
 
 module _ (M : Meaning) (length s : ℕ) where
   pub over_limits : within_limits M ≡ false → turned_away M length s ≡ Some OverLimits

@@ -20,9 +20,9 @@ use Rattle.keeper.specs.declared.service.Keeper.TheVariants.{Ready as AtReady, W
 use Rattle.keeper.specs.declared.service.Call.{Call}
 use Rattle.keeper.specs.declared.service.Call.TheVariants.{Permits, Pick, Grant, Report, PermitsIn, Spoiler}
 use Rattle.keeper.specs.declared.service.Answer.{Answer}
-use Rattle.keeper.specs.declared.service.Answer.TheVariants.{Spoiled}
+use Rattle.keeper.specs.declared.service.Answer.TheVariants.{Permitted, Picked, Spoiled}
 use Rattle.keeper.specs.Slots.{granted_if, either, reported_if}
-use Rattle.keeper.specs.Service.{permitted_said, picked_said, spoiled_said, after_grant, after_report, stepped, answers, after_calls}
+use Rattle.keeper.specs.Service.{said, after_grant, after_report, stepped, answers, after_calls}
 use Rattle.keeper.specs.Promise.{ready, waiting, held, Serves, Sound, Runs}
 use Rattle.keeper.specs.Promise.ForReady.{asks, picks, grants}
 use Rattle.keeper.specs.Promise.Serves.{yes, no, picked, granted, turned_down, taken, not_taken, no_state, yes_in, no_in, no_state_in, spoiled, no_spoiler, not_waiting, not_ready}
@@ -75,12 +75,12 @@ module _ (M : Meaning) (law : Lawful M) (map : List ℕ) (limits : within_limits
     serves : Serves M p k c after-it.1 course after-it.0
     kept : Kept course after-it.0
 
-  permits_served : (p : Past) (s m : ℕ) → s < M.states → (o : Option MapFault) → o ≡ None → (b : Bool) → permitted_by M (on map) s m ≡ b → Serves M p (ready s) (Permits m) (permitted_said (unless o b)) p (ready s)
+  permits_served : (p : Past) (s m : ℕ) → s < M.states → (o : Option MapFault) → o ≡ None → (b : Bool) → permitted_by M (on map) s m ≡ b → Serves M p (ready s) (Permits m) (said (unless o (Permitted b))) p (ready s)
   permits_served p s m h None e true q = yes (safe s m h q)
   permits_served p s m h None e false q = no (unsafe s m h q)
   permits_served p s m h (Some f) e b q = absurd (let z : ◌≡◌ {A = ℕ} 0 1 = cc in omega arith)
 
-  pick_served : (p : Past) (s : ℕ) → s < M.states → Lasts M s → (o : Option MapFault) → turned_away M (length map) s ≡ o → o ≡ None → (m : Option ℕ) → pick_by M (on map) s ≡ m → Serves M p (ready s) Pick (picked_said (unless o m)) p (ready s)
+  pick_served : (p : Past) (s : ℕ) → s < M.states → Lasts M s → (o : Option MapFault) → turned_away M (length map) s ≡ o → o ≡ None → (m : Option ℕ) → pick_by M (on map) s ≡ m → Serves M p (ready s) Pick (said (unless o (Picked m))) p (ready s)
   pick_served p s h c None a e (Some m) q =
       let w = (lowest_safe M law map full s (unless (turned_away M (length map) s) (pick_by M (on map) s)) refl).0 m (rw (a, q) refl) in
       picked w.0 w.1
@@ -122,12 +122,12 @@ module _ (M : Meaning) (law : Lawful M) (map : List ℕ) (limits : within_limits
   report_served p s m t h None a false q = record { course = p; serves = not_taken (admitted M (length map) t a).inside q; kept = h }
   report_served p s m t h (Some f) a b q = let w = outside t f a in rw w.1 (record { course = p; serves = no_state w.0; kept = h })
 
-  permits_in_served : (p : Past) (k : Keeper) (s m : ℕ) → (o : Option MapFault) → turned_away M (length map) s ≡ o → (b : Bool) → permitted_by M (on map) s m ≡ b → Serves M p k (PermitsIn s m) (permitted_said (unless o b)) p k
+  permits_in_served : (p : Past) (k : Keeper) (s m : ℕ) → (o : Option MapFault) → turned_away M (length map) s ≡ o → (b : Bool) → permitted_by M (on map) s m ≡ b → Serves M p k (PermitsIn s m) (said (unless o (Permitted b))) p k
   permits_in_served p k s m None a true q = yes_in (safe s m (admitted M (length map) s a).inside q)
   permits_in_served p k s m None a false q = no_in (unsafe s m (admitted M (length map) s a).inside q)
   permits_in_served p k s m (Some f) a b q = let w = outside s f a in rw w.1 (no_state_in w.0)
 
-  spoiler_served : (p : Past) (k : Keeper) (s m : ℕ) → (o : Option MapFault) → turned_away M (length map) s ≡ o → Serves M p k (Spoiler s m) (spoiled_said (unless o (spoiler_by M (on map) s m))) p k
+  spoiler_served : (p : Past) (k : Keeper) (s m : ℕ) → (o : Option MapFault) → turned_away M (length map) s ≡ o → Serves M p k (Spoiler s m) (said (unless o (Spoiled (spoiler_by M (on map) s m)))) p k
   spoiler_served p k s m None a =
       subst (λ t. Serves M p k (Spoiler s m) (Spoiled t) p k) (sym (spoiler_same M (on map) (mark M) full s m)) (spoiled (admitted M (length map) s a).inside)
   spoiler_served p k s m (Some f) a = let w = outside s f a in rw w.1 (no_spoiler w.0)

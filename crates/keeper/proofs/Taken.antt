@@ -1,5 +1,6 @@
 -- When a reported state is a next state.
-use Rattle.std.proofs.Common.{◌≡◌, ℕ, ◌<◌, true, false, eqb, Some, None, Ok, Option, sym, ap, ◌∙◌, inl, inr, arith}
+use Rattle.std.proofs.Common.{◌≡◌, ℕ, ◌<◌, true, eqb, Some, None, Ok, Option, sym, ap, ◌∙◌, inl, inr, arith}
+use Rattle.std.specs.Option.{option_eq}
 use Rattle.std.proofs.lemmas.Bool.{cases_eq, eq-eqb, ne_eqb}
 use Rattle.traffic.specs.Meaning.{Meaning}
 use Rattle.traffic.specs.Answered.{within_limits, next_of}
@@ -9,16 +10,14 @@ use Rattle.game.specs.Maps.{unless}
 use Rattle.keeper.specs.Slots.{either}
 
 -- a state is a next state exactly when it is the least one not below itself
-pub found_next : (M : Meaning) (s m t found : ℕ) → Some found ≡ next_of M s m t → eqb found t ≡ M.leads s m t
-found_next M s m t found e =
+pub told_next : (M : Meaning) (s m t : ℕ) → within_limits M ≡ true → t < M.states → (o : Option ℕ) → o ≡ next_of M s m t → option_eq eqb o (Some t) ≡ M.leads s m t
+told_next M s m t w h None e = sym (next_none M s m t w (sym e) t (omega arith) h)
+told_next M s m t w h (Some found) e =
     let l = (next_some M s m t found (sym e)).1 in
     elim (cases_eq found t) [
       | inl q ↦ eq-eqb _ _ q ∙ sym (ap (M.leads s m) (sym q) ∙ l.passes)
       | inr n ↦ ne_eqb _ _ n ∙ sym (l.before t (omega arith) (omega (arith, l.low)))
     ]
-
-pub none_next : (M : Meaning) (s m t : ℕ) → within_limits M ≡ true → t < M.states → None ≡ next_of M s m t → false ≡ M.leads s m t
-none_next M s m t w h e = sym (next_none M s m t w (sym e) t (omega arith) h)
 
 -- a call that neither state turns away is answered
 pub both_answered : {A : Type 0} (o p : Option MapFault) (a b : A) → o ≡ None → p ≡ None → b ≡ a → Ok b ≡ unless (either o p) a

@@ -1,5 +1,5 @@
 -- What one call does to a keeper and answers, and what a list of calls does.
-use Rattle.std.specs.Prelude.{ℕ, Bool, List, [], ◌∷◌, length, Ok, Err, Option, Result}
+use Rattle.std.specs.Prelude.{ℕ, List, [], ◌∷◌, length, Ok, Err, Result}
 use Rattle.traffic.specs.Meaning.{Meaning}
 use Rattle.game.specs.declared.map_fault.MapFault.{MapFault}
 use Rattle.game.specs.Game.{permitted_by}
@@ -18,17 +18,10 @@ use Rattle.keeper.specs.declared.service.Answer.{Answer}
 use Rattle.keeper.specs.declared.service.Answer.TheVariants.{Permitted, Picked, Granted, Taken, Spoiled, Refused, OutOfTurn}
 use Rattle.keeper.specs.Slots.{granted, reported}
 
-abbrev pub permitted_said : Result Bool MapFault → Answer
-permitted_said (Ok b) = Permitted b
-permitted_said (Err f) = Refused (Map f)
-
-abbrev pub picked_said : Result (Option ℕ) MapFault → Answer
-picked_said (Ok m) = Picked m
-picked_said (Err f) = Refused (Map f)
-
-abbrev pub spoiled_said : Result (Option ℕ) MapFault → Answer
-spoiled_said (Ok t) = Spoiled t
-spoiled_said (Err f) = Refused (Map f)
+-- the answer, or that the call was turned away
+abbrev pub said : Result Answer MapFault → Answer
+said (Ok a) = a
+said (Err f) = Refused (Map f)
 
 abbrev pub after_grant : Result Waiting (SlotFault × Ready) → Keeper × Answer
 after_grant (Ok k) = (AtWaiting k, Granted)
@@ -40,13 +33,13 @@ after_report (Err e) = (AtWaiting e.1, Refused e.0)
 
 module _ (M : Meaning) (map : List ℕ) where
   abbrev pub permits_answer : ℕ → ℕ → Answer
-  permits_answer s m = permitted_said (unless (turned_away M (length map) s) (permitted_by M (on map) s m))
+  permits_answer s m = said (unless (turned_away M (length map) s) (Permitted (permitted_by M (on map) s m)))
 
   abbrev pub pick_answer : ℕ → Answer
-  pick_answer s = picked_said (unless (turned_away M (length map) s) (pick_by M (on map) s))
+  pick_answer s = said (unless (turned_away M (length map) s) (Picked (pick_by M (on map) s)))
 
   abbrev pub spoiler_answer : ℕ → ℕ → Answer
-  spoiler_answer s m = spoiled_said (unless (turned_away M (length map) s) (spoiler_by M (on map) s m))
+  spoiler_answer s m = said (unless (turned_away M (length map) s) (Spoiled (spoiler_by M (on map) s m)))
 
   -- a call out of turn is answered so, and changes nothing
   abbrev pub stepped : Keeper → Call → Keeper × Answer

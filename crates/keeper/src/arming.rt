@@ -15,26 +15,16 @@ pub struct Armed {
     pub tally: Tally,
 }
 
-// Arms the keeper where the start is safe.
-fn arm(start: usize, found: Result<Tally, Refusal>) -> Result<Armed, Refusal>
-    ensures { result ≡ armed start found }
-{
-    match found {
-        Ok(tally) => Ok(Armed {
-            keeper: Ready { state: start },
-            tally,
-        }),
-        Err(refusal) => Err(refusal),
-    }
-}
-
 // The answer, and the map afterwards.
 fn solve_and_arm<T: Traffic>(traffic: &T, start: usize, map: &mut [u16]) -> Result<Armed, Refusal>
     ensures answer { result ≡ armed start (solved (T.meaning traffic.now) start map.old) }
     ensures after { map.new ≡ map_after (T.meaning traffic.now) start map.old }
 {
-    let found = solve(traffic, start, map);
-    arm(start, found)
+    let tally = solve(traffic, start, map)?;
+    Ok(Armed {
+        keeper: Ready { state: start },
+        tally,
+    })
 }
 
 /// Fills the map, and arms a keeper at the start if it is safe there. Where there is no schedule there is no keeper.

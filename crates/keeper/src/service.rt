@@ -1,12 +1,12 @@
 //! A whole list of calls on one keeper.
 ghost use Rattle.std.specs.Prelude.{◌≡◌};
-ghost use Rattle.keeper.specs.Service.{permitted_said, picked_said, spoiled_said, stepped};
+ghost use Rattle.keeper.specs.Service.{said as said_of, stepped};
 ghost use Rattle.keeper.specs.declared.service.Keeper.TheVariants.{Ready as AtReady, Waiting as AtWaiting};
 
 use crate::slot::{Ready, Waiting};
 use crate::slot_fault::SlotFault;
+use game::board::Board;
 use game::map_fault::MapFault;
-use game::questions::{permits, spoiler};
 use traffic::Traffic;
 
 /// A keeper in either phase.
@@ -41,82 +41,60 @@ pub enum Answer {
     OutOfTurn,
 }
 
-fn permitted(answer: Result<bool, MapFault>) -> Answer
-    ensures { result ≡ permitted_said answer }
+// What is said: the answer, or that the call was turned away.
+fn said(answer: Result<Answer, MapFault>) -> Answer
+    ensures { result ≡ said_of answer }
 {
     match answer {
-        Ok(yes) => Answer::Permitted(yes),
-        Err(fault) => Answer::Refused(SlotFault::Map(fault)),
-    }
-}
-
-fn picked(answer: Result<Option<usize>, MapFault>) -> Answer
-    ensures { result ≡ picked_said answer }
-{
-    match answer {
-        Ok(mv) => Answer::Picked(mv),
-        Err(fault) => Answer::Refused(SlotFault::Map(fault)),
-    }
-}
-
-fn spoiled(answer: Result<Option<usize>, MapFault>) -> Answer
-    ensures { result ≡ spoiled_said answer }
-{
-    match answer {
-        Ok(next) => Answer::Spoiled(next),
+        Ok(answer) => answer,
         Err(fault) => Answer::Refused(SlotFault::Map(fault)),
     }
 }
 
 // One call on a ready keeper.
-fn ask_ready<T: Traffic>(keeper: Ready, traffic: &T, map: &[u16], call: Call) -> (Keeper, Answer)
-    ensures { result ≡ stepped (T.meaning traffic.now) map.now (AtReady keeper) call }
+fn ask_ready<T: Traffic>(keeper: Ready, board: Board<'_, T>, call: Call) -> (Keeper, Answer)
+    ensures { result ≡ stepped (T.meaning board.entry.traffic.now) board.entry.map.now (AtReady keeper) call }
 {
     match call {
         Call::Permits(mv) => {
-            let answer = permitted(keeper.permits(traffic, map, mv));
+            let answer = said(keeper.permits(board, mv).map(Answer::Permitted));
             (Keeper::Ready(keeper), answer)
         }
         Call::Pick => {
-            let answer = picked(keeper.pick(traffic, map));
+            let answer = said(keeper.pick(board).map(Answer::Picked));
             (Keeper::Ready(keeper), answer)
         }
-        Call::Grant(mv) => match keeper.grant(traffic, map, mv) {
+        Call::Grant(mv) => match keeper.grant(board, mv) {
             Ok(waiting) => (Keeper::Waiting(waiting), Answer::Granted),
             Err((fault, keeper)) => (Keeper::Ready(keeper), Answer::Refused(fault)),
         },
         Call::Report(_) => (Keeper::Ready(keeper), Answer::OutOfTurn),
         Call::PermitsIn { state, mv } => {
-            let answer = permitted(permits(traffic, map, state, mv));
+            let answer = said(board.permits(state, mv).map(Answer::Permitted));
             (Keeper::Ready(keeper), answer)
         }
         Call::Spoiler { state, mv } => {
-            let answer = spoiled(spoiler(traffic, map, state, mv));
+            let answer = said(board.spoiler(state, mv).map(Answer::Spoiled));
             (Keeper::Ready(keeper), answer)
         }
     }
 }
 
 // One call on a waiting keeper.
-fn ask_waiting<T: Traffic>(
-    keeper: Waiting,
-    traffic: &T,
-    map: &[u16],
-    call: Call,
-) -> (Keeper, Answer)
-    ensures { result ≡ stepped (T.meaning traffic.now) map.now (AtWaiting keeper) call }
+fn ask_waiting<T: Traffic>(keeper: Waiting, board: Board<'_, T>, call: Call) -> (Keeper, Answer)
+    ensures { result ≡ stepped (T.meaning board.entry.traffic.now) board.entry.map.now (AtWaiting keeper) call }
 {
     match call {
-        Call::Report(to) => match keeper.report(traffic, map, to) {
+        Call::Report(to) => match keeper.report(board, to) {
             Ok(ready) => (Keeper::Ready(ready), Answer::Taken),
             Err((fault, keeper)) => (Keeper::Waiting(keeper), Answer::Refused(fault)),
         },
         Call::PermitsIn { state, mv } => {
-            let answer = permitted(permits(traffic, map, state, mv));
+            let answer = said(board.permits(state, mv).map(Answer::Permitted));
             (Keeper::Waiting(keeper), answer)
         }
         Call::Spoiler { state, mv } => {
-            let answer = spoiled(spoiler(traffic, map, state, mv));
+            let answer = said(board.spoiler(state, mv).map(Answer::Spoiled));
             (Keeper::Waiting(keeper), answer)
         }
         Call::Permits(_) | Call::Pick | Call::Grant(_) => {
@@ -126,11 +104,11 @@ fn ask_waiting<T: Traffic>(
 }
 
 /// Performs one call.
-pub fn perform<T: Traffic>(keeper: Keeper, traffic: &T, map: &[u16], call: Call) -> (Keeper, Answer)
-    ensures { result ≡ stepped (T.meaning traffic.now) map.now keeper call }
+pub fn perform<T: Traffic>(keeper: Keeper, board: Board<'_, T>, call: Call) -> (Keeper, Answer)
+    ensures { result ≡ stepped (T.meaning board.entry.traffic.now) board.entry.map.now keeper call }
 {
     match keeper {
-        Keeper::Ready(ready) => ask_ready(ready, traffic, map, call),
-        Keeper::Waiting(waiting) => ask_waiting(waiting, traffic, map, call),
+        Keeper::Ready(ready) => ask_ready(ready, board, call),
+        Keeper::Waiting(waiting) => ask_waiting(waiting, board, call),
     }
 }

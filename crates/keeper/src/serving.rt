@@ -2,11 +2,13 @@
 ghost use Rattle.std.specs.Prelude.{◌≡◌, ◌≤◌, [], length, vec_capacity};
 ghost use Rattle.keeper.specs.Service.{answers as answers_of, after_calls};
 ghost use Rattle.keeper.specs.Serving.{Serving, KeptPromise};
+ghost use Rattle.keeper.specs.declared.serving.ServeFault.TheVariants.{Synthesis, Memory};
 
 use crate::arming::{Armed, synthesise};
 use crate::service::{Answer, Call, Keeper, perform};
+use game::board::Board;
 use game::solution::{Refusal, Tally};
-use std::alloc::Global;
+use std::alloc::{AllocError, Global};
 use traffic::Traffic;
 
 /// The keeper after all calls, and the answer of each.
@@ -23,22 +25,37 @@ pub enum ServeFault {
     Memory,
 }
 
+impl From<Refusal> for ServeFault {
+    ghost from_gives = { λ e r. r ≡ Synthesis e };
+
+    fn from(e: Refusal) -> ServeFault {
+        ServeFault::Synthesis(e)
+    }
+}
+
+impl From<AllocError> for ServeFault {
+    ghost from_gives = { λ _ r. r ≡ Memory };
+
+    fn from(_e: AllocError) -> ServeFault {
+        ServeFault::Memory
+    }
+}
+
 // Performs the calls in order and notes the answers, for which there is room.
 fn perform_all<T: Traffic>(
-    traffic: &T,
-    map: &[u16],
+    board: Board<'_, T>,
     armed: Keeper,
     room: Vec<Answer>,
     calls: &[Call],
 ) -> (Keeper, Vec<Answer>)
     requires { (room.items ≡ []) × (length calls.now ≤ vec_capacity room) }
-    ensures keeper { result.0 ≡ after_calls (T.meaning traffic.now) map.now armed calls.now }
-    ensures answers { result.1.items ≡ answers_of (T.meaning traffic.now) map.now armed calls.now }
+    ensures keeper { result.0 ≡ after_calls (T.meaning board.entry.traffic.now) board.entry.map.now armed calls.now }
+    ensures answers { result.1.items ≡ answers_of (T.meaning board.entry.traffic.now) board.entry.map.now armed calls.now }
 {
     let mut keeper = armed;
     let mut answers = room;
     for call in calls {
-        let (next, answer) = perform(keeper, traffic, map, *call);
+        let (next, answer) = perform(keeper, board, *call);
         keeper = next;
         answers.push_reserved(answer);
     }
@@ -55,21 +72,15 @@ fn arm_and_perform<T: Traffic>(
 ) -> Result<Served, ServeFault>
     ensures { Serving (T.meaning traffic.now) start calls.now map.old map.new result }
 {
-    let Ok(room) = Vec::with_capacity(heap, calls.len()) else {
-        return Err(ServeFault::Memory);
-    };
-    match synthesise(traffic, start, map) {
-        Ok(armed) => {
-            let Armed { keeper, tally } = armed;
-            let (keeper, answers) = perform_all(traffic, map, Keeper::Ready(keeper), room, calls);
-            Ok(Served {
-                tally,
-                keeper,
-                answers,
-            })
-        }
-        Err(refusal) => Err(ServeFault::Synthesis(refusal)),
-    }
+    let room = Vec::with_capacity(heap, calls.len())?;
+    let Armed { keeper, tally } = synthesise(traffic, start, map)?;
+    let board = Board { traffic, map };
+    let (keeper, answers) = perform_all(board, Keeper::Ready(keeper), room, calls);
+    Ok(Served {
+        tally,
+        keeper,
+        answers,
+    })
 }
 
 /// Arms a keeper at the start, then performs the calls in order and answers each. A call out of turn is answered so and

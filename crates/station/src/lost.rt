@@ -1,7 +1,7 @@
 //! A site without a schedule: a play into a jam.
 use crate::check::{Check, Group, is_jam};
 use anyhow::anyhow;
-use game::questions::spoiler;
+use game::board::Board;
 use site::site::Site;
 use traffic::Traffic;
 
@@ -16,11 +16,11 @@ fn lowest_legal(site: &Site, state: usize) -> Option<usize> {
 }
 
 /// The lowest legal move in a state, and the spoiler's reply.
-fn spoil(site: &Site, map: &[u16], state: usize) -> anyhow::Result<Check> {
-    let Some(mv) = lowest_legal(site, state) else {
+fn spoil(board: Board<'_, Site>, state: usize) -> anyhow::Result<Check> {
+    let Some(mv) = lowest_legal(board.traffic, state) else {
         return Err(anyhow!("no move is legal"));
     };
-    let Ok(Some(next)) = spoiler(site, map, state, mv) else {
+    let Ok(Some(next)) = board.spoiler(state, mv) else {
         return Err(anyhow!("the spoiler has no reply"));
     };
     Ok(Check { state, mv, next })
@@ -28,14 +28,15 @@ fn spoil(site: &Site, map: &[u16], state: usize) -> anyhow::Result<Check> {
 
 /// Prints the play from joint state 0 into a jam, in which the lowest legal move is made and the spoiler replies. It has
 /// at most `count` checks.
-pub fn print_play(rt: &HostRuntime, site: &Site, map: &[u16], count: u16) -> anyhow::Result<()> {
+pub fn print_play(rt: &HostRuntime, board: Board<'_, Site>, count: u16) -> anyhow::Result<()> {
+    let site = board.traffic;
     println!(rt; "no schedule: a jam within {count} checks")?;
     let mut state = 0;
     for number in 1..=count {
         if is_jam(site, state) {
             break;
         }
-        let check = spoil(site, map, state)?;
+        let check = spoil(board, state)?;
         check.print(rt, site, u32::from(number))?;
         state = check.next;
     }

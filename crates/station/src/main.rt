@@ -4,6 +4,7 @@
 #![tactic(auto)]
 
 use anyhow::anyhow;
+use game::board::Board;
 use game::solution::Refusal;
 use keeper::arming::synthesise;
 use loops::load_fault::LoadFault;
@@ -27,8 +28,12 @@ fn print_refused(rt: &HostRuntime, report: Report) -> anyhow::Result<()> {
 /// Runs slots on a site from joint state 0 or, without a schedule, prints how the plants force a jam.
 fn run_site(rt: &HostRuntime, site: &Site, slots: u32, map: &mut [u16]) -> anyhow::Result<()> {
     match synthesise(site, 0, map) {
-        Ok(armed) => slots::run_slots(rt, site, map, armed.keeper, slots),
-        Err(Refusal::NoSchedule { count, .. }) => lost::print_play(rt, site, map, count),
+        Ok(armed) => slots::run_slots(rt, Board { traffic: site, map }, armed.keeper, slots),
+        Err(Refusal::NoSchedule { count, .. }) => lost::print_play(
+            rt,
+            Board { traffic: site, map },
+            count,
+        ),
         Err(Refusal::Map(fault)) => print_refused(
             rt,
             Report {

@@ -1,7 +1,7 @@
 //! Slots run by a keeper: at each check its pick is granted, the plants reply, and the next state is reported.
 use crate::check::{Check, Move, is_jam};
 use anyhow::anyhow;
-use game::questions::spoiler;
+use game::board::Board;
 use keeper::slot::Ready;
 use site::site::Site;
 use std::io;
@@ -84,25 +84,25 @@ impl Course {
 }
 
 /// The plants' reply to a move: the spoiler's where it has one, and else the lowest next state.
-fn reply(site: &Site, map: &[u16], state: usize, mv: usize) -> Option<usize> {
-    match spoiler(site, map, state, mv) {
+fn reply(board: Board<'_, Site>, state: usize, mv: usize) -> Option<usize> {
+    match board.spoiler(state, mv) {
         Ok(Some(next)) => Some(next),
-        Ok(None) | Err(_) => site.next_from(state, mv, 0),
+        Ok(None) | Err(_) => board.traffic.next_from(state, mv, 0),
     }
 }
 
-fn run_slot(keeper: Ready, site: &Site, map: &[u16]) -> anyhow::Result<Slot> {
+fn run_slot(keeper: Ready, board: Board<'_, Site>) -> anyhow::Result<Slot> {
     let state = keeper.state();
-    let Ok(Some(mv)) = keeper.pick(site, map) else {
+    let Ok(Some(mv)) = keeper.pick(board) else {
         return Err(anyhow!("the keeper has no pick"));
     };
-    let Ok(waiting) = keeper.grant(site, map, mv) else {
+    let Ok(waiting) = keeper.grant(board, mv) else {
         return Err(anyhow!("the keeper's pick is not granted"));
     };
-    let Some(next) = reply(site, map, state, mv) else {
+    let Some(next) = reply(board, state, mv) else {
         return Err(anyhow!("the plants have no reply"));
     };
-    let Ok(keeper) = waiting.report(site, map, next) else {
+    let Ok(keeper) = waiting.report(board, next) else {
         return Err(anyhow!("the plants' reply is not taken"));
     };
     let check = Check { state, mv, next };
@@ -112,18 +112,18 @@ fn run_slot(keeper: Ready, site: &Site, map: &[u16]) -> anyhow::Result<Slot> {
 /// Runs so many slots, and prints each and what they came to.
 pub fn run_slots(
     rt: &HostRuntime,
-    site: &Site,
-    map: &[u16],
+    board: Board<'_, Site>,
     armed: Ready,
     slots: u32,
 ) -> anyhow::Result<()> {
+    let site = board.traffic;
     let Some(size) = site.size() else {
         return Err(anyhow!("the site is over the limits"));
     };
     let mut course = Course::new(site, armed.state());
     let mut keeper = armed;
     for number in 1..=slots {
-        let slot = run_slot(keeper, site, map)?;
+        let slot = run_slot(keeper, board)?;
         keeper = slot.keeper;
         slot.check.print(rt, site, number)?;
         course.note(site, slot.check);

@@ -8,8 +8,8 @@ ghost use Rattle.keeper.specs.Slots.{granted};
 
 use crate::slot::{Ready, Waiting};
 use crate::slot_fault::SlotFault;
+use game::board::Board;
 use game::map_fault::MapFault;
-use game::questions::{permits, pick};
 use traffic::Traffic;
 
 impl Ready {
@@ -21,29 +21,28 @@ impl Ready {
     }
 
     /// Whether a move is permitted in the state that it holds.
-    pub fn permits<T: Traffic>(&self, traffic: &T, map: &[u16], mv: usize) -> Result<bool, MapFault>
-        ensures { result ≡ unless (turned_away (T.meaning traffic.now) (length map.now) self.now.state) (permitted_by (T.meaning traffic.now) (on map.now) self.now.state mv) }
+    pub fn permits<T: Traffic>(&self, board: Board<'_, T>, mv: usize) -> Result<bool, MapFault>
+        ensures { result ≡ unless (turned_away (T.meaning board.entry.traffic.now) (length board.entry.map.now) self.now.state) (permitted_by (T.meaning board.entry.traffic.now) (on board.entry.map.now) self.now.state mv) }
     {
-        permits(traffic, map, self.state, mv)
+        board.permits(self.state, mv)
     }
 
     /// The lowest permitted move, absent where none is.
-    pub fn pick<T: Traffic>(&self, traffic: &T, map: &[u16]) -> Result<Option<usize>, MapFault>
-        ensures { result ≡ unless (turned_away (T.meaning traffic.now) (length map.now) self.now.state) (pick_by (T.meaning traffic.now) (on map.now) self.now.state) }
+    pub fn pick<T: Traffic>(&self, board: Board<'_, T>) -> Result<Option<usize>, MapFault>
+        ensures { result ≡ unless (turned_away (T.meaning board.entry.traffic.now) (length board.entry.map.now) self.now.state) (pick_by (T.meaning board.entry.traffic.now) (on board.entry.map.now) self.now.state) }
     {
-        pick(traffic, map, self.state)
+        board.pick(self.state)
     }
 
     /// Grants a move, or hands the keeper back.
     pub fn grant<T: Traffic>(
         self,
-        traffic: &T,
-        map: &[u16],
+        board: Board<'_, T>,
         mv: usize,
     ) -> Result<Waiting, (SlotFault, Ready)>
-        ensures { result ≡ granted (T.meaning traffic.now) map.now self mv }
+        ensures { result ≡ granted (T.meaning board.entry.traffic.now) board.entry.map.now self mv }
     {
-        match self.permits(traffic, map, mv) {
+        match self.permits(board, mv) {
             Ok(true) => {
                 let Ready { state } = self;
                 Ok(Waiting { state, mv })

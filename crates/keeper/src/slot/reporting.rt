@@ -5,8 +5,8 @@ ghost use Rattle.keeper.specs.Slots.{either, reported};
 
 use crate::slot::{Ready, Waiting};
 use crate::slot_fault::SlotFault;
+use game::board::Board;
 use game::map_fault::MapFault;
-use game::questions::admit;
 use traffic::Traffic;
 
 impl Waiting {
@@ -25,27 +25,23 @@ impl Waiting {
     }
 
     // Whether a state is a next state of the granted move.
-    fn takes<T: Traffic>(&self, traffic: &T, map: &[u16], to: usize) -> Result<bool, MapFault>
-        ensures { result ≡ unless (either (turned_away (T.meaning traffic.now) (length map.now) self.now.state) (turned_away (T.meaning traffic.now) (length map.now) to)) ((T.meaning traffic.now).leads self.now.state self.now.mv to) }
+    fn takes<T: Traffic>(&self, board: Board<'_, T>, to: usize) -> Result<bool, MapFault>
+        ensures { result ≡ unless (either (turned_away (T.meaning board.entry.traffic.now) (length board.entry.map.now) self.now.state) (turned_away (T.meaning board.entry.traffic.now) (length board.entry.map.now) to)) ((T.meaning board.entry.traffic.now).leads self.now.state self.now.mv to) }
     {
-        admit(traffic, map.len(), self.state)?;
-        admit(traffic, map.len(), to)?;
-        match traffic.next_from(self.state, self.mv, to) {
-            Some(found) => Ok(found == to),
-            None => Ok(false),
-        }
+        board.admit(self.state)?;
+        board.admit(to)?;
+        Ok(board.traffic.next_from(self.state, self.mv, to) == Some(to))
     }
 
     /// Takes the report of the next state, or hands the keeper back.
     pub fn report<T: Traffic>(
         self,
-        traffic: &T,
-        map: &[u16],
+        board: Board<'_, T>,
         to: usize,
     ) -> Result<Ready, (SlotFault, Waiting)>
-        ensures { result ≡ reported (T.meaning traffic.now) map.now self to }
+        ensures { result ≡ reported (T.meaning board.entry.traffic.now) board.entry.map.now self to }
     {
-        match self.takes(traffic, map, to) {
+        match self.takes(board, to) {
             Ok(true) => Ok(Ready { state: to }),
             Ok(false) => Err((SlotFault::NoNextState, self)),
             Err(fault) => Err((SlotFault::Map(fault), self)),

@@ -14,12 +14,12 @@ loop-call-preserved g c = (
 
 pub returns : goal.returns
 returns g c =
-    let M = g.T.Traffic.meaning c.args.traffic.now in
+    let M = g.T.Traffic.meaning c.args.board.traffic.now in
     let calls = c.args.calls.now in
     record {
-      keeper = sym (at_drop_all (after_calls M c.args.map.now c.loop-call.keeper) calls c.loop-call.call-index c.loop-call-test.false) ∙ c.loop-call.invariant.0;
+      keeper = sym (at_drop_all (after_calls M c.args.board.map.now c.loop-call.keeper) calls c.loop-call.call-index c.loop-call-test.false) ∙ c.loop-call.invariant.0;
       answers =
           sym (append-nil (vec_items c.loop-call.answers))
-          ∙ sym (at_drop_all (λ cs. vec_items c.loop-call.answers ++ answers M c.args.map.now c.loop-call.keeper cs) calls c.loop-call.call-index c.loop-call-test.false)
+          ∙ sym (at_drop_all (λ cs. vec_items c.loop-call.answers ++ answers M c.args.board.map.now c.loop-call.keeper cs) calls c.loop-call.call-index c.loop-call-test.false)
           ∙ c.loop-call.invariant.1;
     }
