@@ -20,13 +20,13 @@ fn told(answer: Result<Tally, Refusal>) -> Option<Tally> {
 /// How often to solve: the program's argument.
 fn repetitions(rt: &HostRuntime) -> anyhow::Result<u32> {
     let mut arguments = env::args(rt)?.skip(1);
-    let Some(argument) = arguments.next() else {
-        return Err(anyhow!("say how often to solve"));
-    };
-    match argument.as_str().parse() {
-        Ok(n) => Ok(n),
-        Err(_) => Err(anyhow!("how often to solve is a number")),
-    }
+    let argument = arguments
+        .next()
+        .ok_or_else(|| anyhow!("say how often to solve"))?;
+    argument
+        .as_str()
+        .parse()
+        .map_err(|_| anyhow!("how often to solve is a number"))
 }
 
 fn solve_often(site: &Site, times: u32, map: &mut [u16]) -> Option<Tally> {
@@ -41,10 +41,7 @@ fn run(rt: &HostRuntime) -> anyhow::Result<()> {
     let times = repetitions(rt)?;
     let mut file = Vec::new(rt.alloc());
     rt.stdin().read_to_end(&mut file)?;
-    let mut site = Site::new();
-    if site.load(rt.alloc(), &file).is_err() {
-        return Err(anyhow!("the file is no site file"));
-    }
+    let site = Site::read(rt.alloc(), &file).map_err(|_| anyhow!("the file is no site file"))?;
     let mut map = [0u16; 32768];
     let (Some(states), Some(tally)) = (site.states(), solve_often(&site, times, &mut map)) else {
         return Err(anyhow!("nothing was solved"));

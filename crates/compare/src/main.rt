@@ -57,12 +57,7 @@ fn unhex(heap: Global, hex: &[u8]) -> Result<Option<Vec<u8>>, AllocError> {
 }
 
 fn is_untouched(buffer: &[u8]) -> bool {
-    for b in buffer {
-        if *b != UNTOUCHED {
-            return false;
-        }
-    }
-    true
+    buffer.iter().all(|b| *b == UNTOUCHED)
 }
 
 /// Whether the site is written as `file`, with the buffer behind it left alone.
@@ -114,9 +109,7 @@ fn compare_case(
     hex: &str,
     expected: &str,
 ) -> anyhow::Result<()> {
-    let Some(file) = unhex(rt.alloc(), hex.as_bytes())? else {
-        return Err(anyhow!("a case is no hex"));
-    };
+    let file = unhex(rt.alloc(), hex.as_bytes())?.ok_or_else(|| anyhow!("a case is no hex"))?;
     let verdict = Verdict::of(rt.alloc(), &file)?;
     let line = format!(in rt.alloc(); "{verdict}")?;
     let agrees = line.as_str() == expected;
@@ -143,9 +136,10 @@ fn run(rt: &HostRuntime) -> anyhow::Result<()> {
         if line.as_str().starts_with('#') {
             continue;
         }
-        let Some((hex, expected)) = line.as_str().split_once(": ") else {
-            return Err(anyhow!("a case has no verdict"));
-        };
+        let (hex, expected) = line
+            .as_str()
+            .split_once(": ")
+            .ok_or_else(|| anyhow!("a case has no verdict"))?;
         compare_case(rt, &mut tally, hex, expected)?;
     }
     let Tally {

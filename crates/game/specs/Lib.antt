@@ -8,3 +8,4 @@ pub mod Counsel
 pub mod Supports
 pub mod Filling
 pub mod Answers
+pub mod Words

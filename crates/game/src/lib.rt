@@ -11,3 +11,4 @@ mod round;
 pub mod solution;
 mod standing;
 mod support;
+pub mod words;

@@ -5,3 +5,4 @@ pub mod Service
 pub mod Promise
 pub mod Guarantee
 pub mod Serving
+pub mod Words

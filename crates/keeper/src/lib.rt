@@ -9,3 +9,4 @@ pub mod service;
 pub mod serving;
 pub mod slot;
 pub mod slot_fault;
+pub mod words;

@@ -7,18 +7,14 @@
 #![tactic(auto)]
 
 use anyhow::anyhow;
-use game::solution::Refusal;
-use keeper::service::{Answer, Call, Keeper};
+use keeper::service::Call;
 use keeper::serving::{ServeFault, Served, serve};
 use site::site::Site;
 use std::alloc::AllocError;
 use std::{env, fs, io};
 
 fn number(word: &str) -> Option<usize> {
-    match word.parse() {
-        Ok(n) => Some(n),
-        Err(_) => None,
-    }
+    word.parse().ok()
 }
 
 /// A call that names a move or a state.
@@ -66,87 +62,18 @@ fn read_calls(rt: &HostRuntime, name: &str) -> anyhow::Result<Vec<Call>> {
         if line.is_empty() || line.starts_with('#') {
             continue;
         }
-        let Some(call) = read_call(line) else {
-            let at = i + 1;
-            return Err(anyhow!(format!(in rt.alloc(); "line {at} of {name} is no call")?));
-        };
+        let at = i + 1;
+        let call = read_call(line).ok_or_else(|| anyhow!("line {at} of {name} is no call"))?;
         calls.push(call)?;
     }
     Ok(calls)
 }
 
-fn read_site(rt: &HostRuntime, name: &str) -> anyhow::Result<Site> {
-    let file = fs::read(rt, name)?;
-    let mut site = Site::new();
-    match site.load(rt.alloc(), &file) {
-        Ok(()) => Ok(site),
-        Err(_) => Err(anyhow!("a file is no site file")),
-    }
-}
-
-fn print_call(rt: &HostRuntime, call: Call) -> io::Result<()> {
-    match call {
-        Call::Permits(mv) => print!(rt; "permits {mv}"),
-        Call::Pick => print!(rt; "pick"),
-        Call::Grant(mv) => print!(rt; "grant {mv}"),
-        Call::Report(state) => print!(rt; "report {state}"),
-        Call::PermitsIn { state, mv } => print!(rt; "permits {mv} in {state}"),
-        Call::Spoiler { state, mv } => print!(rt; "spoiler {mv} in {state}"),
-    }
-}
-
-fn print_answer(rt: &HostRuntime, answer: Answer) -> io::Result<()> {
-    match answer {
-        Answer::Permitted(true) => println!(rt; "yes"),
-        Answer::Permitted(false) => println!(rt; "no"),
-        Answer::Picked(Some(mv)) => println!(rt; "move {mv}"),
-        Answer::Spoiled(Some(state)) => println!(rt; "state {state}"),
-        Answer::Picked(None) | Answer::Spoiled(None) => println!(rt; "none"),
-        Answer::Granted => println!(rt; "granted"),
-        Answer::Taken => println!(rt; "taken"),
-        Answer::Refused(fault) => {
-            let number = fault.number();
-            println!(rt; "refused {number}")
-        }
-        Answer::OutOfTurn => println!(rt; "out of turn"),
-    }
-}
-
-fn print_keeper(rt: &HostRuntime, keeper: &Keeper) -> io::Result<()> {
-    match keeper {
-        Keeper::Ready(ready) => {
-            let state = ready.state();
-            println!(rt; "ready in {state}")
-        }
-        Keeper::Waiting(waiting) => {
-            let state = waiting.state();
-            let mv = waiting.granted();
-            println!(rt; "waiting in {state} after move {mv}")
-        }
-    }
-}
-
 fn print_served(rt: &HostRuntime, calls: &[Call], served: &Served) -> io::Result<()> {
-    for (call, answer) in calls.iter().zip(served.answers.iter()) {
-        print_call(rt, *call)?;
-        print!(rt; ": ")?;
-        print_answer(rt, *answer)?;
+    for (call, answer) in calls.iter().zip(&served.answers) {
+        println!(rt; "{call}: {answer}")?;
     }
-    print_keeper(rt, &served.keeper)
-}
-
-fn print_refusal(rt: &HostRuntime, refusal: Refusal) -> io::Result<()> {
-    match refusal {
-        Refusal::NoSchedule { count, tally } => {
-            let winning = tally.winning;
-            let rounds = tally.rounds;
-            println!(rt; "no schedule: count {count}, winning {winning}, rounds {rounds}")
-        }
-        Refusal::Map(_) => {
-            let number = refusal.number();
-            println!(rt; "refused {number}")
-        }
-    }
+    println!(rt; "{}", served.keeper)
 }
 
 fn replay_on(
@@ -158,7 +85,7 @@ fn replay_on(
 ) -> anyhow::Result<()> {
     match serve(rt.alloc(), site, start, map, calls) {
         Ok(served) => print_served(rt, calls, &served)?,
-        Err(ServeFault::Synthesis(refusal)) => print_refusal(rt, refusal)?,
+        Err(ServeFault::Synthesis(refusal)) => println!(rt; "{refusal}")?,
         Err(ServeFault::Memory) => return Err(AllocError.into()),
     }
     Ok(())
@@ -166,20 +93,16 @@ fn replay_on(
 
 fn replay(rt: &HostRuntime, site: &str, start: &str, calls: &str) -> anyhow::Result<()> {
     println!(rt; "# {site} {start} {calls}")?;
-    let Some(start) = number(start) else {
-        return Err(anyhow!("a start is a number"));
-    };
-    let site = read_site(rt, site)?;
+    let start = number(start).ok_or_else(|| anyhow!("a start is a number"))?;
+    let file = fs::read(rt, site)?;
+    let site = Site::read(rt.alloc(), &file).map_err(|_| anyhow!("a file is no site file"))?;
     let calls = read_calls(rt, calls)?;
     let mut map = [0u16; 32768];
     replay_on(rt, &site, start, &mut map, &calls)
 }
 
 fn run(rt: &HostRuntime) -> anyhow::Result<()> {
-    let mut arguments = Vec::new(rt.alloc());
-    for argument in env::args(rt)?.skip(1) {
-        arguments.push(argument)?;
-    }
+    let arguments: Vec<String> = env::args(rt)?.skip(1).collect(rt.alloc())?;
     for group in arguments.chunks(3) {
         let [site, start, calls] = group else {
             return Err(anyhow!("a replay has three arguments: SITE START CALLS"));

@@ -6,10 +6,7 @@ use traffic::Traffic;
 
 /// Whether a state is a jam: two or more loops are due. A state that the site does not have counts as one.
 pub fn is_jam(site: &Site, state: usize) -> bool {
-    match site.due(state) {
-        Some(due) => due >= 2,
-        None => true,
-    }
+    site.due(state).is_none_or(|due| due >= 2)
 }
 
 /// The states of the four loops.
@@ -21,10 +18,9 @@ pub struct Group {
 impl Group {
     pub fn of(site: &Site, state: usize) -> anyhow::Result<Group> {
         let mut states = [0; 4];
-        match site.unpack(state, &mut states) {
-            Ok(()) => Ok(Group { states }),
-            Err(_) => Err(anyhow!("the site has no such state")),
-        }
+        site.unpack(state, &mut states)
+            .map_err(|_| anyhow!("the site has no such state"))?;
+        Ok(Group { states })
     }
 }
 

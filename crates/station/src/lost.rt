@@ -7,19 +7,12 @@ use traffic::Traffic;
 
 fn lowest_legal(site: &Site, state: usize) -> Option<usize> {
     let size = site.size()?;
-    for mv in 0..=size.loops {
-        if site.is_legal(state, mv) {
-            return Some(mv);
-        }
-    }
-    None
+    (0..=size.loops).find(|mv| site.is_legal(state, *mv))
 }
 
 /// The lowest legal move in a state, and the spoiler's reply.
 fn spoil(board: Board<'_, Site>, state: usize) -> anyhow::Result<Check> {
-    let Some(mv) = lowest_legal(board.traffic, state) else {
-        return Err(anyhow!("no move is legal"));
-    };
+    let mv = lowest_legal(board.traffic, state).ok_or_else(|| anyhow!("no move is legal"))?;
     let Ok(Some(next)) = board.spoiler(state, mv) else {
         return Err(anyhow!("the spoiler has no reply"));
     };

@@ -46,9 +46,8 @@ fn run_site(rt: &HostRuntime, site: &Site, slots: u32, map: &mut [u16]) -> anyho
 }
 
 fn run_file(rt: &HostRuntime, file: &[u8], slots: u32, map: &mut [u16]) -> anyhow::Result<()> {
-    let mut site = Site::new();
-    match site.load(rt.alloc(), file) {
-        Ok(()) => run_site(rt, &site, slots, map),
+    match Site::read(rt.alloc(), file) {
+        Ok(site) => run_site(rt, &site, slots, map),
         Err(LoadFault::File(fault)) => print_refused(rt, fault.report()),
         Err(LoadFault::Memory) => Err(anyhow!("there is no memory")),
     }
@@ -68,13 +67,11 @@ fn run_input(rt: &HostRuntime, slots: u32, map: &mut [u16]) -> anyhow::Result<()
 
 /// How many slots to run: the first argument.
 fn read_slots(argument: Option<String>) -> anyhow::Result<u32> {
-    let Some(argument) = argument else {
-        return Err(anyhow!("say how many slots to run"));
-    };
-    match argument.as_str().parse() {
-        Ok(slots) => Ok(slots),
-        Err(_) => Err(anyhow!("how many slots to run is a number")),
-    }
+    argument
+        .ok_or_else(|| anyhow!("say how many slots to run"))?
+        .as_str()
+        .parse()
+        .map_err(|_| anyhow!("how many slots to run is a number"))
 }
 
 fn run_all(rt: &HostRuntime, map: &mut [u16]) -> anyhow::Result<()> {

@@ -4,12 +4,13 @@ use anyhow::anyhow;
 use game::board::Board;
 use keeper::slot::Ready;
 use site::site::Site;
-use std::io;
+use std::fmt;
 use traffic::Traffic;
 
 /// What a course of slots came to so far.
 #[derive(Drop)]
 struct Course {
+    loops: usize,
     slots: u32,
     /// How often each loop sent.
     sends: [u32; 4],
@@ -27,8 +28,9 @@ struct Slot {
 }
 
 impl Course {
-    fn new(site: &Site, start: usize) -> Course {
+    fn new(site: &Site, loops: usize, start: usize) -> Course {
         Course {
+            loops,
             slots: 0,
             sends: [0; 4],
             silence: 0,
@@ -59,27 +61,20 @@ impl Course {
             self.met_jam = true;
         }
     }
+}
 
-    fn print_sends(&self, rt: &HostRuntime, loops: usize) -> io::Result<()> {
-        let mut place = 0usize;
-        for sends in self.sends.iter().take(loops) {
-            place = place.saturating_add(1);
-            println!(rt; "sends of loop {place}: {sends}")?;
+impl fmt::Display for Course {
+    fn fmt<W: fmt::Write>(&self, f: &mut fmt::Formatter<W>) -> fmt::Result {
+        writeln!(f, "slots: {}", self.slots)?;
+        for (place, sends) in (1..=self.loops).zip(&self.sends) {
+            writeln!(f, "sends of loop {place}: {sends}")?;
         }
-        Ok(())
-    }
-
-    fn print(&self, rt: &HostRuntime, loops: usize) -> io::Result<()> {
-        let slots = self.slots;
-        let longest_silence = self.longest_silence;
-        println!(rt; "slots: {slots}")?;
-        self.print_sends(rt, loops)?;
-        println!(rt; "longest silence: {longest_silence}")?;
-        if self.met_jam {
-            println!(rt; "a jam was met")
+        writeln!(f, "longest silence: {}", self.longest_silence)?;
+        f.write_str(if self.met_jam {
+            "a jam was met"
         } else {
-            println!(rt; "no jam met")
-        }
+            "no jam met"
+        })
     }
 }
 
@@ -99,9 +94,7 @@ fn run_slot(keeper: Ready, board: Board<'_, Site>) -> anyhow::Result<Slot> {
     let Ok(waiting) = keeper.grant(board, mv) else {
         return Err(anyhow!("the keeper's pick is not granted"));
     };
-    let Some(next) = reply(board, state, mv) else {
-        return Err(anyhow!("the plants have no reply"));
-    };
+    let next = reply(board, state, mv).ok_or_else(|| anyhow!("the plants have no reply"))?;
     let Ok(keeper) = waiting.report(board, next) else {
         return Err(anyhow!("the plants' reply is not taken"));
     };
@@ -117,10 +110,10 @@ pub fn run_slots(
     slots: u32,
 ) -> anyhow::Result<()> {
     let site = board.traffic;
-    let Some(size) = site.size() else {
-        return Err(anyhow!("the site is over the limits"));
-    };
-    let mut course = Course::new(site, armed.state());
+    let size = site
+        .size()
+        .ok_or_else(|| anyhow!("the site is over the limits"))?;
+    let mut course = Course::new(site, size.loops, armed.state());
     let mut keeper = armed;
     for number in 1..=slots {
         let slot = run_slot(keeper, board)?;
@@ -128,6 +121,6 @@ pub fn run_slots(
         slot.check.print(rt, site, number)?;
         course.note(site, slot.check);
     }
-    course.print(rt, size.loops)?;
+    println!(rt; "{course}")?;
     Ok(())
 }

@@ -36,8 +36,8 @@ impl Site {
         })
     }
 
-    // The site of a file.
-    fn read(heap: Global, file: &[u8]) -> Result<Site, LoadFault>
+    /// The site of a file. A file is accepted exactly when it is the file of a lawful site.
+    pub fn read(heap: Global, file: &[u8]) -> Result<Site, LoadFault>
         ensures read { Holds site_places (site file.now) result }
         ensures accepted { Accepted file.now result }
     {

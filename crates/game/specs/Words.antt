@@ -1,0 +1,10 @@
+-- A refusal in words.
+use Rattle.std.specs.Prelude.{ℕ, List, ◌++◌, codes, decimal}
+use Rattle.game.specs.declared.solution.Refusal.{Refusal}
+use Rattle.game.specs.declared.solution.Refusal.TheVariants.{Map, NoSchedule}
+use Rattle.game.specs.Maps.{number}
+
+abbrev pub refusal_words : Refusal → List ℕ
+refusal_words (Map f) = codes "refused " ++ decimal (number f)
+refusal_words (NoSchedule k t) =
+    codes "no schedule: count " ++ (decimal k ++ (codes ", winning " ++ (decimal t.winning ++ (codes ", rounds " ++ decimal t.rounds))))
