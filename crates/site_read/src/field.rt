@@ -14,6 +14,7 @@ fn is_set_below(set: u16, count: u8) -> bool
 }
 
 /// Reads the record of loop `place` in a file of `size` bytes. What is left of the file says where a field stands.
+// What is left goes beside it: in here, each contract would have to say too that place and size stay.
 #[derive(Clone, Copy)]
 pub struct RecordReader {
     pub place: u8,
@@ -40,7 +41,7 @@ impl RecordReader {
                 at: self.size,
             });
         };
-        if *b < low || *b > high {
+        if !(low..=high).contains(b) {
             let at = self.offset(rest);
             return Err(Fault::Number { place, at });
         }
