@@ -21,7 +21,7 @@ fn load_sets<'a>(
 {
     let mut sets = Vec::new(heap);
     let mut left = rest;
-    for i in 0..n {
+    for _ in 0..n {
         let (set, after) = reader.target_set(left, count)?;
         sets.push(RegionSet(set))?;
         left = after;

@@ -13,6 +13,7 @@ use site_read::field::RecordReader;
 use std::alloc::Global;
 
 // The regions of a loop, and the number of their states.
+// Not one function with load_sets: the states counted on would have to stay in bounds in a closure that changes them.
 fn load_rows(
     heap: Global,
     reader: RecordReader,
@@ -25,7 +26,7 @@ fn load_rows(
     let mut regions = Vec::new(heap);
     let mut states: u16 = 0;
     let mut left = rest;
-    for i in 0..count {
+    for _ in 0..count {
         let (region, after) = Region::load(heap, reader, left, count, states)?;
         states += u16::from(region.deadline);
         regions.push(region)?;
