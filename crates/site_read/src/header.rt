@@ -8,6 +8,7 @@ use crate::fault::Fault;
 /// The first bytes of every site file.
 pub const MARK: &[u8; 3] = b"LKT";
 
+#[tactic(auto, using(crate::proofs::Marks::wrong_here, crate::proofs::Marks::wrong_ends))]
 fn check_mark(a: u8, b: u8, c: u8) -> Result<(), Fault>
     ensures { result ≡ mark_fault a b c }
 {
