@@ -47,21 +47,30 @@ impl RecordReader {
         }
         Ok((*b, after))
     }
+}
 
-    /// A nonempty set of regions below `count`, in two bytes.
-    pub fn target_set<'a>(self, rest: &'a [u8], count: u8) -> Result<(u16, &'a [u8]), Fault>
-        ensures { seen result ≡ target_set self.place self.size count rest.now }
+/// Reads the regions of a loop that has `count` of them.
+#[derive(Clone, Copy)]
+pub struct RegionReader {
+    pub record: RecordReader,
+    pub count: u8,
+}
+
+impl RegionReader {
+    /// A nonempty set of the loop's regions, in two bytes.
+    pub fn target_set<'a>(self, rest: &'a [u8]) -> Result<(u16, &'a [u8]), Fault>
+        ensures { seen result ≡ target_set self.record.place self.record.size self.count rest.now }
     {
-        let place = self.place;
+        let place = self.record.place;
         let [high, low, after @ ..] = rest else {
             return Err(Fault::Truncated {
                 place,
-                at: self.size,
+                at: self.record.size,
             });
         };
         let set = u16::from_be_bytes([*high, *low]);
-        if !is_set_below(set, count) {
-            let at = self.offset(rest);
+        if !is_set_below(set, self.count) {
+            let at = self.record.offset(rest);
             return Err(Fault::Set { place, at });
         }
         Ok((set, after))

@@ -15,19 +15,19 @@ use Rattle.loops.proofs.region_loop.load.load_rows.Goals as goal
 pub returns-in_err-region : goal.returns-in_err-region
 returns-in_err-region c =
     let p = err_from_is_err_and c.from_residual.result c.from_residual.ensures.1 in
-    let one : List ℕ → Parsed Row = row c.args.reader.place c.args.reader.size c.args.count in
+    let one : List ℕ → Parsed Row = row c.args.reader.record.place c.args.reader.record.size c.args.reader.count in
     rw (p.1, p.2)
     (record {
       read =
-          stops row_of (λ (p : Vec Region Global × ℕ). rows_of (vec_items p.0)) (one c.loop.left.now) (value_of (many one c.args.count c.args.rest.now)) c.in_err-region.field-0.0
-          (λ e h. ap value_of (c.loop.invariant.0 ∙ fill_stops one (rows_of (vec_items c.loop.regions)) c.args.count c.loop.counter c.loop.left.now e (omega arith) h))
+          stops row_of (λ (p : Vec Region Global × ℕ). rows_of (vec_items p.0)) (one c.loop.left.now) (value_of (many one c.args.reader.count c.args.rest.now)) c.in_err-region.field-0.0
+          (λ e h. ap value_of (c.loop.invariant.0 ∙ fill_stops one (rows_of (vec_items c.loop.regions)) c.args.reader.count c.loop.counter c.loop.left.now e (omega arith) h))
           c.in_err-region.ensures.read;
       counted = tt;
     })
 
 pub loop-preserved : goal.loop-preserved
 loop-preserved c =
-    let one : List ℕ → Parsed Row = row c.args.reader.place c.args.reader.size c.args.count in
+    let one : List ℕ → Parsed Row = row c.args.reader.record.place c.args.reader.record.size c.args.reader.count in
     let r : Region = c.in_ok-region.region in
     let was : List Region = vec_items c.loop.regions in
     let inv = c.loop.invariant in
@@ -36,7 +36,7 @@ loop-preserved c =
     let d : c.from-states.result ≡ r.deadline = c.from-states.ensures in
     let few = got.numbered in (
       inv.0
-          ∙ fill_turn one row_of was (vec_items c.push.new.self) r c.args.count c.loop.counter c.loop.left.now c.in_ok-region.after.now (omega arith) got.read now,
+          ∙ fill_turn one row_of was (vec_items c.push.new.self) r c.args.reader.count c.loop.counter c.loop.left.now c.in_ok-region.after.now (omega arith) got.read now,
       ap (numbered 0) now ∙ numbered_push 0 was r inv.1 (omega (arith, few.0, inv.2)),
       omega (arith, d, inv.2, ap (λ (l : List Region). deadlines (rows_of l)) now, deadlines_push was r),
       omega (arith, d, inv.3, few.1),
