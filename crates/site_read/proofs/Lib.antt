@@ -1,5 +1,5 @@
 mod Many
-mod Cuts
+mod Marks
 pub mod Sound
 pub mod Decoded
 pub mod Encoded

@@ -1,28 +1,23 @@
--- The turns of a loop over `many`.
-use Rattle.std.proofs.Common.{◌≡◌, ℕ, suc, ◌+◌, ◌-◌, ◌<◌, ◌≤◌, List, ◌∷◌, Ok, Err, Result, sym, refl, ap, ◌∙◌, arith}
+-- The turns of a loop over `skips`, and what many parts leave.
+use Rattle.std.proofs.Common.{◌≡◌, ℕ, zero, suc, ◌+◌, ◌-◌, ◌<◌, List, ◌∷◌, Ok, Err, Result, refl, ◌∙◌, arith}
 use Rattle.site_read.specs.declared.fault.Fault.{Fault}
-use Rattle.site_read.specs.Parse.{Parsed, then, many, rest_of}
+use Rattle.site_read.specs.Parse.{Parsed, then, many, rest_of, skips}
 
-module _ {X : Type 0} (p : List ℕ → Parsed X) where
-  tail_rest : {Y Z : Type 0} (r : Parsed Y) (f : Y → Z) → rest_of (then r λ t. Ok (f t.0, t.1)) ≡ rest_of r
-  tail_rest (Ok t) f = refl
-  tail_rest (Err e) f = refl
+-- one more part, by what it leaves
+pub skips_turn : (part : List ℕ → Result (List ℕ) Fault) (n i : ℕ) (bs : List ℕ) (r : Result (List ℕ) Fault) → i < n → r ≡ part bs → skips part (n - i) bs ≡ then r (skips part (n - (i + 1)))
+skips_turn part n i bs r h e =
+    let s : n - i ≡ suc (n - (i + 1)) = omega arith in
+    rw (s, e) refl
 
-  step : (n : ℕ) (bs : List ℕ) (r : Parsed X) → p bs ≡ r → rest_of (many p (suc n) bs) ≡ then (rest_of r) (λ after. rest_of (many p n after))
-  step n bs (Ok x) e = rw e (tail_rest (many p n x.1) (λ t. x.0 ∷ t))
-  step n bs (Err y) e = rw e refl
+-- what many values leave
+pub skips_many : {X : Type 0} (p : List ℕ → Parsed X) (n : ℕ) (bs : List ℕ) → skips (λ b. rest_of (p b)) n bs ≡ rest_of (many p n bs)
+skips_many p zero bs = refl
+skips_many {X} p (suc n) bs = go (skips_many p n) (p bs)
+  where
+    last : (x : X) (r : Parsed (List X)) → rest_of r ≡ rest_of (then {Y = List X × List ℕ} r λ t. Ok (x ∷ t.0, t.1))
+    last x (Ok t) = refl
+    last x (Err e) = refl
 
-  -- one more turn, by what the parser leaves
-  pub many_turn : (n i : ℕ) (bs : List ℕ) → i < n → rest_of (many p (n - i) bs) ≡ then (rest_of (p bs)) (λ after. rest_of (many p (n - (i + 1)) after))
-  many_turn n i bs h =
-      let e : n - i ≡ suc (n - (i + 1)) = omega arith in
-      rw e (step (n - (i + 1)) bs (p bs) refl)
-
-  pub many_more : (n i : ℕ) (bs after : List ℕ) → i < n → Ok after ≡ rest_of (p bs) → rest_of (many p (n - i) bs) ≡ rest_of (many p (n - (i + 1)) after)
-  many_more n i bs after h e = many_turn n i bs h ∙ ap (λ (r : Result (List ℕ) Fault). then r (λ a. rest_of (many p (n - (i + 1)) a))) (sym e)
-
-  pub many_stops : (n i : ℕ) (bs : List ℕ) (y : Fault) → i < n → Err y ≡ rest_of (p bs) → rest_of (many p (n - i) bs) ≡ Err y
-  many_stops n i bs y h e = many_turn n i bs h ∙ ap (λ (r : Result (List ℕ) Fault). then r (λ a. rest_of (many p (n - (i + 1)) a))) (sym e)
-
-  pub many_none : (n i : ℕ) (bs : List ℕ) → n ≤ i → rest_of (many p (n - i) bs) ≡ Ok bs
-  many_none n i bs h = let e : n - i ≡ 0 = omega arith in rw e refl
+    go : ((b : List ℕ) → skips (λ b. rest_of (p b)) n b ≡ rest_of (many p n b)) → (r : Parsed X) → then (rest_of r) (skips (λ b. rest_of (p b)) n) ≡ rest_of (then {Y = List X × List ℕ} r λ x. then (many p n x.1) λ t. Ok (x.0 ∷ t.0, t.1))
+    go ih (Ok x) = ih x.1 ∙ last x.0 (many p n x.1)
+    go ih (Err e) = refl

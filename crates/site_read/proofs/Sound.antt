@@ -8,7 +8,7 @@ use Rattle.site_read.specs.Tables.{Row, Gaps, Table, by_regions, by_contract, ev
 use Rattle.site_read.specs.Fields.{ranged, target_set, row, regions, gaps, table}
 
 pub never : {X : Type 0} {P : Type 0} (e : Fault) (x : X) → Err e ≡ Ok x → P
-never e x q = let z : ◌≡◌ {A = ℕ} 0 1 = cc in absurd (omega arith)
+never e x q = absurd (cc)
 
 pub same_ok : {X : Type 0} (x y : X) → ◌≡◌ {A = Result X Fault} (Ok x) (Ok y) → x ≡ y
 same_ok x y q = cc

@@ -1,5 +1,5 @@
--- Each fault's number, loop and byte offset.
-use Rattle.std.specs.Prelude.{ℕ}
+-- Each fault's number, loop and byte offset, and the line that says them.
+use Rattle.std.specs.Prelude.{ℕ, List, ◌++◌, codes, decimal}
 use Rattle.site_read.specs.declared.fault.Fault.{Fault}
 use Rattle.site_read.specs.declared.fault.Fault.TheVariants.{Truncated, Mark, Version, LoopCount, Kind, Number, Set, Trailing}
 use Rattle.site_read.specs.declared.fault.Report.{Report}
@@ -16,3 +16,7 @@ report (Kind q a) = told 5 q a
 report (Number q a) = told 6 q a
 report (Set q a) = told 7 q a
 report (Trailing a) = told 8 0 a
+
+abbrev pub refusal : Report → List ℕ
+refusal r =
+    codes "refused " ++ (decimal r.number ++ (codes " loop " ++ (decimal r.place ++ (codes " at " ++ decimal r.at))))

@@ -3,6 +3,8 @@
 -- kind 2 the least and the greatest gap, the least and the greatest hold.
 use Rattle.std.specs.Prelude.{ℕ, ◌+◌, ◌-◌, ◌*◌, cond, ◌&&◌, List, [], ◌∷◌, length, Ok, Err, ◌==◌, nat_le}
 use Rattle.site_read.specs.declared.fault.Fault.TheVariants.{Truncated, Kind, Number, Set}
+use Rattle.site_read.specs.declared.kind.Kind.TheVariants.{Region, Contract}
+use Rattle.site_read.specs.Kinds.{kind_byte}
 use Rattle.site_read.specs.Parse.{Parsed, then, many}
 use Rattle.site_read.specs.Tables.{Row, Gaps, Table, by_regions, by_contract, lawful_set}
 
@@ -43,6 +45,6 @@ module _ (place size : ℕ) where
   abbrev pub table : List ℕ → Parsed Table
   table [] = Err (Truncated place size)
   table (k ∷ bs) =
-      cond (k == 1) (then (regions bs) λ t. Ok (by_regions t.0, t.1))
-      (cond (k == 2) (then (gaps bs) λ t. Ok (by_contract t.0, t.1))
+      cond (k == kind_byte Region) (then (regions bs) λ t. Ok (by_regions t.0, t.1))
+      (cond (k == kind_byte Contract) (then (gaps bs) λ t. Ok (by_contract t.0, t.1))
       (Err (Kind place (size - length (k ∷ bs)))))

@@ -1,6 +1,8 @@
 -- The bytes of a table and of a site: what a file must be, said without a reader.
 use Rattle.std.specs.Prelude.{◌≡◌, ℕ, ◌+◌, ◌/◌, ◌%◌, Bool, true, false, ◌&&◌, List, [], ◌∷◌, ◌++◌, length, Some, None, Option, nat_lt}
 use Rattle.std.specs.List.{flat_map}
+use Rattle.site_read.specs.declared.kind.Kind.TheVariants.{Region, Contract}
+use Rattle.site_read.specs.Kinds.{kind_byte}
 use Rattle.site_read.specs.Tables.{Row, Gaps, Table, by_regions, by_contract, every, Lawful}
 
 abbrev pub Bytes : List ℕ → Type 0
@@ -18,8 +20,8 @@ encode_gaps g = g.least_gap ∷ g.greatest_gap ∷ g.least_hold ∷ g.greatest_h
 
 -- a loop's record: its kind, and its table
 abbrev pub encode : Table → List ℕ
-encode (by_regions rs) = 1 ∷ length rs ∷ flat_map encode_row rs
-encode (by_contract g) = 2 ∷ encode_gaps g
+encode (by_regions rs) = kind_byte Region ∷ length rs ∷ flat_map encode_row rs
+encode (by_contract g) = kind_byte Contract ∷ encode_gaps g
 
 -- what a site's four places hold, in file order; a vacant place holds no table
 pub record Places : Type 0 where

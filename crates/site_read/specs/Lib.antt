@@ -2,6 +2,7 @@ pub mod Faults
 pub mod Parse
 pub mod Header
 pub mod Tables
+pub mod Kinds
 pub mod Fields
 pub mod Format
 pub mod Records

@@ -1,5 +1,5 @@
 -- What a parser of the file's bytes answers, and how parsers follow one another.
-use Rattle.std.specs.Prelude.{ℕ, zero, suc, List, [], ◌∷◌, Ok, Err, Result}
+use Rattle.std.specs.Prelude.{◌≡◌, ℕ, zero, suc, List, [], ◌∷◌, Ok, Err, Result}
 use Rattle.std.specs.Borrow.{Bor}
 use Rattle.site_read.specs.declared.fault.Fault.{Fault}
 
@@ -36,3 +36,12 @@ value_of (Err e) = Err e
 abbrev pub many : {X : Type 0} → (List ℕ → Parsed X) → ℕ → List ℕ → Parsed (List X)
 many p zero bs = Ok ([], bs)
 many p (suc n) bs = then (p bs) λ x. then (many p n x.1) λ t. Ok (x.0 ∷ t.0, t.1)
+
+-- what n parts leave, one after another, each skipped by `part`
+abbrev pub skips : (List ℕ → Result (List ℕ) Fault) → ℕ → List ℕ → Result (List ℕ) Fault
+skips part zero bs = Ok bs
+skips part (suc n) bs = then (part bs) (skips part n)
+
+-- each answer of the code is what `part` leaves
+abbrev pub Skips : (Bor (List ℕ) → Result (Bor (List ℕ)) Fault → Type 0) → (List ℕ → Result (List ℕ) Fault) → Type 0
+Skips answers part = (bs : Bor (List ℕ)) (r : Result (Bor (List ℕ)) Fault) → answers bs r → seen_rest r ≡ part bs.now

@@ -1,6 +1,8 @@
 //! Why a site file is refused.
-ghost use Rattle.std.specs.Prelude.{◌≡◌};
-ghost use Rattle.site_read.specs.Faults.{report as report_of, told as told_of};
+ghost use Rattle.std.specs.Prelude.{◌≡◌, Some};
+ghost use Rattle.site_read.specs.Faults.{report as report_of, refusal};
+
+use std::fmt;
 
 /// A fault of a file. `place` is the loop's number in the file, from 1; `at` is a byte's offset in the file.
 #[derive(Clone, Copy, PartialEq, Eq, Debug)]
@@ -31,25 +33,29 @@ pub struct Report {
     pub at: usize,
 }
 
-fn told(number: u8, place: u8, at: usize) -> Report
-    ensures { result ≡ told_of number place at }
-{
-    Report { number, place, at }
+impl From<Fault> for Report {
+    ghost from_gives = { λ fault report. report ≡ report_of fault };
+
+    fn from(fault: Fault) -> Report {
+        let (number, place, at) = match fault {
+            Fault::Truncated { place, at } => (1, place, at),
+            Fault::Mark { at } => (2, 0, at),
+            Fault::Version => (3, 0, 3),
+            Fault::LoopCount => (4, 0, 5),
+            Fault::Kind { place, at } => (5, place, at),
+            Fault::Number { place, at } => (6, place, at),
+            Fault::Set { place, at } => (7, place, at),
+            Fault::Trailing { at } => (8, 0, at),
+        };
+        Report { number, place, at }
+    }
 }
 
-impl Fault {
-    pub fn report(self) -> Report
-        ensures { result ≡ report_of self }
-    {
-        match self {
-            Fault::Truncated { place, at } => told(1, place, at),
-            Fault::Mark { at } => told(2, 0, at),
-            Fault::Version => told(3, 0, 3),
-            Fault::LoopCount => told(4, 0, 5),
-            Fault::Kind { place, at } => told(5, place, at),
-            Fault::Number { place, at } => told(6, place, at),
-            Fault::Set { place, at } => told(7, place, at),
-            Fault::Trailing { at } => told(8, 0, at),
-        }
+impl fmt::Display for Report {
+    ghost output = { λ report. Some (refusal report) };
+
+    fn fmt<W: fmt::Write>(&self, f: &mut fmt::Formatter<W>) -> fmt::Result {
+        let Report { number, place, at } = *self;
+        write!(f, "refused {number} loop {place} at {at}")
     }
 }

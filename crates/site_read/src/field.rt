@@ -14,6 +14,7 @@ fn is_set_below(set: u16, count: u8) -> bool
 }
 
 /// Reads the record of loop `place` in a file of `size` bytes. What is left of the file says where a field stands.
+// What is left goes beside it: in here, each contract would have to say too that place and size stay.
 #[derive(Clone, Copy)]
 pub struct RecordReader {
     pub place: u8,
@@ -40,27 +41,36 @@ impl RecordReader {
                 at: self.size,
             });
         };
-        if *b < low || *b > high {
+        if !(low..=high).contains(b) {
             let at = self.offset(rest);
             return Err(Fault::Number { place, at });
         }
         Ok((*b, after))
     }
+}
 
-    /// A nonempty set of regions below `count`, in two bytes.
-    pub fn target_set<'a>(self, rest: &'a [u8], count: u8) -> Result<(u16, &'a [u8]), Fault>
-        ensures { seen result ≡ target_set self.place self.size count rest.now }
+/// Reads the regions of a loop that has `count` of them.
+#[derive(Clone, Copy)]
+pub struct RegionReader {
+    pub record: RecordReader,
+    pub count: u8,
+}
+
+impl RegionReader {
+    /// A nonempty set of the loop's regions, in two bytes.
+    pub fn target_set<'a>(self, rest: &'a [u8]) -> Result<(u16, &'a [u8]), Fault>
+        ensures { seen result ≡ target_set self.record.place self.record.size self.count rest.now }
     {
-        let place = self.place;
+        let place = self.record.place;
         let [high, low, after @ ..] = rest else {
             return Err(Fault::Truncated {
                 place,
-                at: self.size,
+                at: self.record.size,
             });
         };
         let set = u16::from_be_bytes([*high, *low]);
-        if !is_set_below(set, count) {
-            let at = self.offset(rest);
+        if !is_set_below(set, self.count) {
+            let at = self.record.offset(rest);
             return Err(Fault::Set { place, at });
         }
         Ok((set, after))

@@ -8,17 +8,14 @@ use crate::fault::Fault;
 /// The first bytes of every site file.
 pub const MARK: &[u8; 3] = b"LKT";
 
+#[tactic(auto, using(crate::proofs::Marks::wrong_here, crate::proofs::Marks::wrong_ends))]
 fn check_mark(a: u8, b: u8, c: u8) -> Result<(), Fault>
     ensures { result ≡ mark_fault a b c }
 {
-    if a != MARK[0] {
-        return Err(Fault::Mark { at: 0 });
-    }
-    if b != MARK[1] {
-        return Err(Fault::Mark { at: 1 });
-    }
-    if c != MARK[2] {
-        return Err(Fault::Mark { at: 2 });
+    for (at, (found, right)) in [a, b, c].iter().zip(MARK).enumerate() {
+        if found != right {
+            return Err(Fault::Mark { at });
+        }
     }
     Ok(())
 }
@@ -40,7 +37,7 @@ pub fn header(file: &[u8]) -> Result<(u8, &[u8]), Fault>
         [m0, m1, m2, v0, v1, count, records @ ..] => {
             check_mark(*m0, *m1, *m2)?;
             check_version(*v0, *v1)?;
-            if *count < 1 || *count > 4 {
+            if !(1..=4).contains(count) {
                 return Err(Fault::LoopCount);
             }
             Ok((*count, records))

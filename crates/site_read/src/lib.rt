@@ -8,4 +8,5 @@ pub mod extent;
 pub mod fault;
 pub mod field;
 pub mod header;
+pub mod kind;
 pub mod records;

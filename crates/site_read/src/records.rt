@@ -1,32 +1,28 @@
 //! The records of a file, each lent from it.
-ghost use Rattle.std.specs.Prelude.{◌≡◌};
-ghost use Rattle.site_read.specs.Records.{record_of, seen_record, slot as slot_of, seen_slot, pieces, seen_pieces};
+ghost use Rattle.std.specs.Prelude.{◌≡◌, ◌-◌, length};
+ghost use Rattle.site_read.specs.Records.{before, record_of, seen_record, slot as slot_of, seen_slot, pieces, seen_pieces};
 
 use crate::fault::Fault;
 use crate::field::RecordReader;
 use crate::header::header;
+use crate::kind::Kind;
 
-/// The record of a region loop: its bytes from the kind on, and the offset of the first.
+/// The part of the file that a record takes: its bytes from the kind on, and the offset of the first.
 #[derive(Clone, Copy)]
-pub struct RegionRecord<'a> {
+pub struct Part<'a> {
     pub bytes: &'a [u8],
     pub at: usize,
 }
 
-/// The record of a contract loop, in the same way.
-#[derive(Clone, Copy)]
-pub struct ContractRecord<'a> {
-    pub bytes: &'a [u8],
-    pub at: usize,
-}
-
+/// The record of a region loop or of a contract loop.
 #[derive(Clone, Copy)]
 pub enum Record<'a> {
-    Region(RegionRecord<'a>),
-    Contract(ContractRecord<'a>),
+    Region(Part<'a>),
+    Contract(Part<'a>),
 }
 
 /// The records of a file, in file order.
+// Four names and no array: each is read behind the one before it, with the number of its own loop.
 #[derive(Clone, Copy)]
 pub struct Records<'a> {
     pub first: Option<Record<'a>>,
@@ -36,6 +32,17 @@ pub struct Records<'a> {
 }
 
 impl RecordReader {
+    /// What stands before `after` in the rest of the file.
+    fn part<'a>(self, rest: &'a [u8], after: &[u8]) -> Part<'a>
+        ensures bytes { result.bytes.now ≡ before rest.now after.now }
+        ensures at { result.at ≡ self.size - length rest.now }
+    {
+        Part {
+            bytes: &rest[..rest.len().saturating_sub(after.len())],
+            at: self.offset(rest),
+        }
+    }
+
     /// The record that the rest of the file begins with, and what remains behind it.
     pub fn record<'a>(self, rest: &'a [u8]) -> Result<(Record<'a>, &'a [u8]), Fault>
         ensures { seen_record result ≡ record_of self.place self.size rest.now }
@@ -47,18 +54,20 @@ impl RecordReader {
                 at: self.size,
             });
         };
-        let at = self.offset(rest);
-        if *kind == 1 {
-            let after = self.skip_regions(body)?;
-            let bytes = &rest[0..rest.len().saturating_sub(after.len())];
-            return Ok((Record::Region(RegionRecord { bytes, at }), after));
+        match Kind::try_from(*kind) {
+            Ok(Kind::Region) => {
+                let after = self.skip_regions(body)?;
+                Ok((Record::Region(self.part(rest, after)), after))
+            }
+            Ok(Kind::Contract) => {
+                let after = self.skip_gaps(body)?;
+                Ok((Record::Contract(self.part(rest, after)), after))
+            }
+            Err(_) => {
+                let at = self.offset(rest);
+                Err(Fault::Kind { place, at })
+            }
         }
-        if *kind == 2 {
-            let after = self.skip_gaps(body)?;
-            let bytes = &rest[0..rest.len().saturating_sub(after.len())];
-            return Ok((Record::Contract(ContractRecord { bytes, at }), after));
-        }
-        Err(Fault::Kind { place, at })
     }
 
     /// The record of this loop, if the file has that many.

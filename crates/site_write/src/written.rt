@@ -13,6 +13,7 @@ use loops::contract_loop::ContractLoop;
 use loops::place::Place;
 use loops::region::{Region, RegionSet};
 use loops::region_loop::RegionLoop;
+use site_read::kind::Kind;
 
 /// A part of a site, with the bytes that stand for it in a file.
 pub(crate) trait Written {
@@ -60,7 +61,7 @@ impl Written for RegionLoop {
 
     fn put_at(&self, out: &mut [u8], at: usize) -> usize {
         let regions = self.regions();
-        let rows = put(out, at, &[1, regions.len() as u8]);
+        let rows = put(out, at, &[Kind::Region.into(), regions.len() as u8]);
         put_all(regions, out, rows)
     }
 }
@@ -74,7 +75,7 @@ impl Written for ContractLoop {
             out,
             at,
             &[
-                2,
+                Kind::Contract.into(),
                 terms.least_gap,
                 terms.greatest_gap,
                 terms.least_hold,

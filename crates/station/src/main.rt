@@ -18,10 +18,7 @@ mod lost;
 mod slots;
 
 fn print_refused(rt: &HostRuntime, report: Report) -> anyhow::Result<()> {
-    let number = report.number;
-    let place = report.place;
-    let at = report.at;
-    println!(rt; "refused {number} loop {place} at {at}")?;
+    println!(rt; "{report}")?;
     Ok(())
 }
 
@@ -48,7 +45,7 @@ fn run_site(rt: &HostRuntime, site: &Site, slots: u32, map: &mut [u16]) -> anyho
 fn run_file(rt: &HostRuntime, file: &[u8], slots: u32, map: &mut [u16]) -> anyhow::Result<()> {
     match Site::read(rt.alloc(), file) {
         Ok(site) => run_site(rt, &site, slots, map),
-        Err(LoadFault::File(fault)) => print_refused(rt, fault.report()),
+        Err(LoadFault::File(fault)) => print_refused(rt, fault.into()),
         Err(LoadFault::Memory) => Err(anyhow!("there is no memory")),
     }
 }

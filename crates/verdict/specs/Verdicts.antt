@@ -1,7 +1,7 @@
 -- The verdict on a site file, and the line that says it.
 use Rattle.std.specs.Prelude.{◌≡◌, ℕ, ◌<◌, ◌≤◌, List, ◌++◌, Some, None, Ok, Err, codes, decimal, Option, Result}
 use Rattle.site_read.specs.declared.fault.Fault.{Fault}
-use Rattle.site_read.specs.Faults.{report, told}
+use Rattle.site_read.specs.Faults.{report, told, refusal}
 use Rattle.site_read.specs.Format.{Places, LawfulSite, file_of}
 use Rattle.site_read.specs.Sites.{site}
 use Rattle.site.specs.Joint.{joint_states, counted}
@@ -22,7 +22,7 @@ verdict_of file = judged (site file)
 
 abbrev pub line : Verdict → List ℕ
 line (States n) = codes "states " ++ decimal n
-line (Refused r) = codes "refused " ++ (decimal r.number ++ (codes " loop " ++ (decimal r.place ++ (codes " at " ++ decimal r.at))))
+line (Refused r) = refusal r
 
 -- What a verdict says of a file: it is that of a lawful site of so many joint states, at most 32,768; or every lawful site
 -- that has this file, if there is one, has more

@@ -24,12 +24,7 @@ impl fmt::Display for Verdict {
     fn fmt<W: fmt::Write>(&self, f: &mut fmt::Formatter<W>) -> fmt::Result {
         match self {
             Verdict::States(n) => write!(f, "states {n}"),
-            Verdict::Refused(r) => {
-                let number = r.number;
-                let place = r.place;
-                let at = r.at;
-                write!(f, "refused {number} loop {place} at {at}")
-            }
+            Verdict::Refused(report) => write!(f, "{report}"),
         }
     }
 }
@@ -56,7 +51,7 @@ impl Verdict {
         let mut site = Site::new();
         match site.load(heap, file) {
             Ok(()) => Ok(Verdict::of_states(site.states())),
-            Err(LoadFault::File(fault)) => Ok(Verdict::Refused(fault.report())),
+            Err(LoadFault::File(fault)) => Ok(Verdict::Refused(fault.into())),
             Err(LoadFault::Memory) => Err(AllocError),
         }
     }

@@ -7,22 +7,21 @@ ghost use Rattle.loops.specs.Loading.{Loads};
 
 use crate::load_fault::LoadFault;
 use crate::region::{Region, RegionSet};
-use site_read::field::RecordReader;
+use site_read::field::RegionReader;
 use std::alloc::Global;
 
 fn load_sets<'a>(
     heap: Global,
-    reader: RecordReader,
+    reader: RegionReader,
     rest: &'a [u8],
-    count: u8,
     n: u8,
 ) -> Result<(Vec<RegionSet>, &'a [u8]), LoadFault>
-    ensures { Loads sets_of (many (target_set reader.place reader.size count) n rest.now) result }
+    ensures { Loads sets_of (many (target_set reader.record.place reader.record.size reader.count) n rest.now) result }
 {
     let mut sets = Vec::new(heap);
     let mut left = rest;
-    for i in 0..n {
-        let (set, after) = reader.target_set(left, count)?;
+    for _ in 0..n {
+        let (set, after) = reader.target_set(left)?;
         sets.push(RegionSet(set))?;
         left = after;
     }
@@ -30,20 +29,19 @@ fn load_sets<'a>(
 }
 
 impl Region {
-    /// The region that `rest` begins with, in a loop of `count` regions, and what remains behind it.
+    /// The region that `rest` begins with, and what remains behind it.
     pub(crate) fn load<'a>(
         heap: Global,
-        reader: RecordReader,
+        reader: RegionReader,
         rest: &'a [u8],
-        count: u8,
         first_state: u16,
     ) -> Result<(Region, &'a [u8]), LoadFault>
-        ensures read { Loads row_of (row reader.place reader.size count rest.now) result }
+        ensures read { Loads row_of (row reader.record.place reader.record.size reader.count rest.now) result }
         ensures numbered { IfOk result (λ p. (p.0.first_state ≡ first_state) × (p.0.deadline ≤ 64)) }
     {
-        let (earliest, rest) = reader.ranged(rest, 1, 64)?;
-        let (deadline, rest) = reader.ranged(rest, earliest, 64)?;
-        let (targets, rest) = load_sets(heap, reader, rest, count, deadline + 1 - earliest)?;
+        let (earliest, rest) = reader.record.ranged(rest, 1, 64)?;
+        let (deadline, rest) = reader.record.ranged(rest, earliest, 64)?;
+        let (targets, rest) = load_sets(heap, reader, rest, deadline + 1 - earliest)?;
         Ok((
             Region {
                 earliest,

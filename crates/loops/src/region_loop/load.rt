@@ -9,24 +9,24 @@ ghost use Rattle.loops.specs.Loading.{Holds, table_of};
 use crate::load_fault::LoadFault;
 use crate::region::Region;
 use crate::region_loop::RegionLoop;
-use site_read::field::RecordReader;
+use site_read::field::{RecordReader, RegionReader};
 use std::alloc::Global;
 
 // The regions of a loop, and the number of their states.
+// Not one function with load_sets: the states counted on would have to stay in bounds in a closure that changes them.
 fn load_rows(
     heap: Global,
-    reader: RecordReader,
+    reader: RegionReader,
     rest: &[u8],
-    count: u8,
 ) -> Result<(Vec<Region>, u16), LoadFault>
-    ensures read { Holds (λ p. rows_of p.0.items) (value_of (many (row reader.place reader.size count) count rest.now)) result }
+    ensures read { Holds (λ p. rows_of p.0.items) (value_of (many (row reader.record.place reader.record.size reader.count) reader.count rest.now)) result }
     ensures counted { IfOk result (λ p. (numbered 0 p.0.items ≡ true) × (p.1 ≡ deadlines (rows_of p.0.items))) }
 {
     let mut regions = Vec::new(heap);
     let mut states: u16 = 0;
     let mut left = rest;
-    for i in 0..count {
-        let (region, after) = Region::load(heap, reader, left, count, states)?;
+    for _ in 0..reader.count {
+        let (region, after) = Region::load(heap, reader, left, states)?;
         states += u16::from(region.deadline);
         regions.push(region)?;
         left = after;
@@ -40,7 +40,11 @@ impl RegionLoop {
         ensures { Holds table_of (value_of (regions reader.place reader.size rest.now)) result }
     {
         let (count, rest) = reader.ranged(rest, 1, 16)?;
-        let (regions, states) = load_rows(heap, reader, rest, count)?;
+        let regions = RegionReader {
+            record: reader,
+            count,
+        };
+        let (regions, states) = load_rows(heap, regions, rest)?;
         Ok(RegionLoop { regions, states })
     }
 }

@@ -1,4 +1,4 @@
-use Rattle.std.proofs.Common.{◌≡◌, ℕ, ◌+◌, ◌-◌, List, [], ◌∷◌, ◌++◌, vec_items, Vec, refl, ap, ◌∙◌, arith}
+use Rattle.std.proofs.Common.{◌≡◌, ℕ, List, [], ◌∷◌, ◌++◌, vec_items, Vec, refl, ap, ◌∙◌, arith}
 use Rattle.std.proofs.lemmas.Result.{err_from_is_err_and}
 use Rattle.std.proofs.lemmas.Slice.{pushed}
 use Rattle.std.specs.declared.alloc.Global.{Global}
@@ -8,36 +8,35 @@ use Rattle.site_read.specs.Fields.{row}
 use Rattle.loops.specs.declared.region.Region.{Region}
 use Rattle.loops.specs.Regions.{row_of, rows_of, numbered}
 use Rattle.loops.specs.States.{deadlines}
-use Rattle.loops.proofs.Fill.{behind, fill_more, fill_stops, fill_push, stops}
+use Rattle.loops.proofs.Fill.{fill_turn, fill_stops, stops}
 use Rattle.loops.proofs.Numbered.{numbered_push, deadlines_push}
 use Rattle.loops.proofs.region_loop.load.load_rows.Goals as goal
 
 pub returns-in_err-region : goal.returns-in_err-region
 returns-in_err-region c =
     let p = err_from_is_err_and c.from_residual.result c.from_residual.ensures.1 in
-    let one : List ℕ → Parsed Row = row c.args.reader.place c.args.reader.size c.args.count in
+    let one : List ℕ → Parsed Row = row c.args.reader.record.place c.args.reader.record.size c.args.reader.count in
     rw (p.1, p.2)
     (record {
       read =
-          stops row_of (λ (p : Vec Region Global × ℕ). rows_of (vec_items p.0)) (one c.loop-i.left.now) (value_of (many one c.args.count c.args.rest.now)) c.in_err-region.field-0.0
-          (λ e h. ap value_of (c.loop-i.invariant.0 ∙ fill_stops one (rows_of (vec_items c.loop-i.regions)) c.args.count c.loop-i.i c.loop-i.left.now e (omega arith) h))
+          stops row_of (λ (p : Vec Region Global × ℕ). rows_of (vec_items p.0)) (one c.loop.left.now) (value_of (many one c.args.reader.count c.args.rest.now)) c.in_err-region.field-0.0
+          (λ e h. ap value_of (c.loop.invariant.0 ∙ fill_stops one (rows_of (vec_items c.loop.regions)) c.args.reader.count c.loop.counter c.loop.left.now e (omega arith) h))
           c.in_err-region.ensures.read;
       counted = tt;
     })
 
-pub loop-i-preserved : goal.loop-i-preserved
-loop-i-preserved c =
-    let one : List ℕ → Parsed Row = row c.args.reader.place c.args.reader.size c.args.count in
+pub loop-preserved : goal.loop-preserved
+loop-preserved c =
+    let one : List ℕ → Parsed Row = row c.args.reader.record.place c.args.reader.record.size c.args.reader.count in
     let r : Region = c.in_ok-region.region in
-    let was : List Region = vec_items c.loop-i.regions in
-    let inv = c.loop-i.invariant in
+    let was : List Region = vec_items c.loop.regions in
+    let inv = c.loop.invariant in
     let got = c.in_ok-region.ensures in
     let now : vec_items c.push.new.self ≡ was ++ r ∷ [] = pushed (r ∷ []) refl c.in_ok-push.was c.push.ensures.items in
     let d : c.from-states.result ≡ r.deadline = c.from-states.ensures in
     let few = got.numbered in (
       inv.0
-          ∙ fill_more one (rows_of was) c.args.count c.loop-i.i c.loop-i.left.now (row_of r) c.in_ok-region.after.now (omega arith) got.read
-          ∙ ap (λ (l : List Row). behind l (many one (c.args.count - (c.loop-i.i + 1)) c.in_ok-region.after.now)) (fill_push row_of was (vec_items c.push.new.self) r now),
+          ∙ fill_turn one row_of was (vec_items c.push.new.self) r c.args.reader.count c.loop.counter c.loop.left.now c.in_ok-region.after.now (omega arith) got.read now,
       ap (numbered 0) now ∙ numbered_push 0 was r inv.1 (omega (arith, few.0, inv.2)),
       omega (arith, d, inv.2, ap (λ (l : List Region). deadlines (rows_of l)) now, deadlines_push was r),
       omega (arith, d, inv.3, few.1),

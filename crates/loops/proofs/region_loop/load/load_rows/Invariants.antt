@@ -6,10 +6,10 @@ use Rattle.loops.specs.States.{deadlines}
 use Rattle.loops.proofs.Fill.{behind}
 use Rattle.loops.proofs.region_loop.load.load_rows.Given as goal
 
-abbrev pub invariant-loop-i : goal.invariant-loop-i
-invariant-loop-i l =
-    (many (row l.reader.place l.reader.size l.count) l.count l.rest
-    ≡ behind (rows_of (vec_items l.regions)) (many (row l.reader.place l.reader.size l.count) (l.count - l.i) l.left))
+abbrev pub invariant-loop : goal.invariant-loop
+invariant-loop l =
+    (many (row l.reader.record.place l.reader.record.size l.reader.count) l.reader.count l.rest
+    ≡ behind (rows_of (vec_items l.regions)) (many (row l.reader.record.place l.reader.record.size l.reader.count) (l.reader.count - l.counter) l.left))
     × (numbered 0 (vec_items l.regions) ≡ true)
     × (l.states ≡ deadlines (rows_of (vec_items l.regions)))
-    × (l.states ≤ 64 * l.i)
+    × (l.states ≤ 64 * l.counter)

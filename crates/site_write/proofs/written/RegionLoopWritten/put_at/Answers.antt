@@ -1,4 +1,4 @@
-use Rattle.std.proofs.Common.{◌≡◌, ℕ, List, [], ◌∷◌, length, vec_items, sym, ap, ◌∙◌, arith}
+use Rattle.std.proofs.Common.{◌≡◌, ℕ, List, [], ◌∷◌, length, vec_items, sym, ap, ◌∙◌, ap₂, arith}
 use Rattle.site_read.specs.Format.{encode_row}
 use Rattle.loops.specs.Regions.{row_of}
 use Rattle.loops.specs.Loading.{table_of}
@@ -25,5 +25,5 @@ returns c =
           c.put-rows.result c.put_all.result c.put-rows.ensures.end c.put_all.ensures.end;
       output = items_output encode_row row_of c.regions-regions.result.now (vec_items c.args.self.now.regions) c.regions-regions.ensures c.args.out.now head c.args.at c.requires
           c.put-rows.new.out c.put_all.new.out c.put-rows.result c.put-rows.ensures.end
-          (c.put-rows.ensures.output ∙ ap (λ (k : ℕ). pasted c.args.out.now c.args.at (1 ∷ k ∷ [])) n) c.put_all.ensures.output;
+          (c.put-rows.ensures.output ∙ ap₂ (λ (kind count : ℕ). pasted c.args.out.now c.args.at (kind ∷ count ∷ [])) c.into.ensures n) c.put_all.ensures.output;
     }
