@@ -9,3 +9,4 @@ pub mod ContractLaws
 pub mod PlaceLaws
 pub mod RegionLaws
 pub mod Spots
+pub mod Stays

@@ -18,5 +18,6 @@ pub struct ContractLoop {
 }
 
 pub mod load;
+pub(crate) mod moment;
 pub mod parts;
 pub mod questions;

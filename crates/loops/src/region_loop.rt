@@ -19,3 +19,4 @@ pub struct RegionLoop {
 pub mod load;
 pub mod parts;
 pub mod questions;
+pub(crate) mod stay;

@@ -1,2 +1,3 @@
 mod Pastes
 mod Saved
+mod Lengths

@@ -1,7 +1,8 @@
 -- One write after another.
-use Rattle.std.proofs.Common.{◌≡◌, ℕ, zero, suc, ◌+◌, ◌*◌, ◌<◌, ◌≤◌, List, [], ◌∷◌, ◌++◌, map, length, get_or, take, drop, sym, refl, ap, ◌∙◌, ap₂, append_assoc, add-zero, add_assoc, arith}
+use Rattle.std.proofs.Common.{◌≡◌, ℕ, ◌+◌, ◌*◌, ◌<◌, ◌≤◌, List, [], ◌∷◌, ◌++◌, map, length, get_or, take, drop, sym, refl, ap, ◌∙◌, ap₂, append_assoc, add-zero, add_assoc, arith}
 use borrow.Rule.Slice.PartMut.{put_mid}
 use Rattle.std.specs.List.{flat_map}
+use Rattle.std.proofs.lemmas.List.Folds.{flat_map-map}
 use Rattle.std.proofs.lemmas.List.{drop-drop, take_at, drop_at, length-append, length-take-le, take-append-drop, take_more, flat_map_more}
 use Rattle.site_write.specs.Paste.{pasted}
 use Rattle.site_read.specs.Format.{word}
@@ -34,14 +35,6 @@ words_length (x ∷ xs) = let ih = words_length xs in omega arith
 
 -- a loop that writes one element after another
 module _ {X : Type 0} (enc : X → List ℕ) where
-  -- there is room for the next
-  pub next_fits : (xs : List X) (i : ℕ) (d : X) → i < length xs → length (flat_map enc (take i xs)) + length (enc (get_or xs i d)) ≤ length (flat_map enc xs)
-  next_fits [] i d h = absurd (omega arith)
-  next_fits (x ∷ xs) zero d h = rw (length-append (enc x) (flat_map enc xs)) (omega arith)
-  next_fits (x ∷ xs) (suc i) d h =
-      let ih = next_fits xs i d (omega arith) in
-      rw (length-append (enc x) (flat_map enc (take i xs)), length-append (enc x) (flat_map enc xs)) (omega arith)
-
   joined_next : (xs : List X) (i : ℕ) (d : X) → i < length xs → flat_map enc (take (i + 1) xs) ≡ flat_map enc (take i xs) ++ enc (get_or xs i d)
   joined_next xs i d h = ap (flat_map enc) (take_more xs i d h) ∙ sym (flat_map_more enc [] (take i xs) (get_or xs i d))
 
@@ -55,15 +48,10 @@ module _ {X : Type 0} (enc : X → List ℕ) where
       let r : at + length (flat_map enc (take i xs)) ≤ length base = omega arith in
       rw (o, e, joined_next xs i d h) (pasted_more base at (flat_map enc (take i xs)) (enc (get_or xs i d)) r)
 
--- the bytes of what a list stands for
-pub joined_map : {X Y : Type 0} (enc : Y → List ℕ) (f : X → Y) (xs : List X) → flat_map (λ x. enc (f x)) xs ≡ flat_map enc (map f xs)
-joined_map enc f [] = refl
-joined_map enc f (x ∷ xs) = ap (λ (l : List ℕ). enc (f x) ++ l) (joined_map enc f xs)
-
 -- a head, and then the items behind it
 module _ {X Y : Type 0} (enc : Y → List ℕ) (f : X → Y) (items xs : List X) (same : items ≡ xs) (out head : List ℕ) (at : ℕ) (fits : at + length (head ++ flat_map enc (map f xs)) ≤ length out) where
   told : flat_map (λ x. enc (f x)) items ≡ flat_map enc (map f xs)
-  told = ap (flat_map (λ x. enc (f x))) same ∙ joined_map enc f xs
+  told = ap (flat_map (λ x. enc (f x))) same ∙ sym (flat_map-map enc f xs)
 
   pub items_fit : (o : List ℕ) (mid : ℕ) → length o ≡ length out → mid ≡ at + length head → mid + length (flat_map (λ x. enc (f x)) items) ≤ length o
   items_fit o mid l m = let n = length-append head (flat_map enc (map f xs)) in rw told (omega arith)

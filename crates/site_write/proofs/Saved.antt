@@ -1,7 +1,9 @@
 -- Writing a site, place after place.
-use Rattle.std.proofs.Common.{◌≡◌, ℕ, ◌+◌, ◌<◌, ◌≤◌, List, [], ◌∷◌, ◌++◌, length, take, drop, Ok, Err, sym, refl, ap, ◌∙◌, ap₂, append_assoc, zero-add, arith}
+use Rattle.std.proofs.Common.{◌≡◌, ℕ, ◌+◌, ◌<◌, ◌≤◌, List, ◌++◌, length, take, drop, Ok, Err, sym, refl, ap, ◌∙◌, ap₂, append-nil, Bor, map, zero-add, arith}
 use Rattle.std.proofs.lemmas.List.{length-append, take_at}
-use Rattle.std.proofs.lemmas.Bool.{le-leb, lt-leb, ne_eqb}
+use Rattle.std.specs.List.{flat_map}
+use Rattle.std.proofs.lemmas.List.Folds.{flat_map-map}
+use Rattle.std.proofs.lemmas.Bool.{eq-eqb, le-leb, lt-leb, ne_eqb}
 use Rattle.site_read.specs.Format.{Places, placed, loop_count, file_of, LawfulPlace, LawfulSite}
 use Rattle.site_read.specs.Sites.{site}
 use Rattle.site_read.proofs.Files.{files_are_read, only_files_are_read}
@@ -10,8 +12,8 @@ use Rattle.loops.specs.declared.place.Place.TheVariants.{Vacant, Region, Contrac
 use Rattle.loops.specs.Places.{place_table}
 use Rattle.loops.specs.ContractLaws.{terms_lawful}
 use Rattle.site.specs.declared.site.Site.{Site}
-use Rattle.site.specs.Loaded.{site_places}
-use Rattle.site_write.specs.declared.write.WriteFault.TheVariants.{TooShort}
+use Rattle.site.specs.Loaded.{site_places, places_of}
+use Rattle.site_write.specs.declared.write.WriteFault.TheVariants.{NoLoops, TooShort}
 use Rattle.site_write.specs.Paste.{pasted}
 use Rattle.site_write.specs.Writing.{write_answer, write_output, OnlyFile}
 use Rattle.site_write.proofs.Pastes.{pasted_more}
@@ -42,8 +44,15 @@ module _ (p : Places) where
   pub site_length : length (file_of p) ≡ 6 + length (placed p.first) + length (placed p.second) + length (placed p.third) + length (placed p.fourth)
   site_length = simp length-append (omega arith)
 
-  pub regrouped : ((((76 ∷ 75 ∷ 84 ∷ 0 ∷ 1 ∷ loop_count p ∷ []) ++ placed p.first) ++ placed p.second) ++ placed p.third) ++ placed p.fourth ≡ file_of p
-  regrouped = simp append_assoc
+  -- the records, in file order
+  abbrev pub records : List ℕ
+  records = placed p.first ++ (placed p.second ++ (placed p.third ++ placed p.fourth))
+
+  pub no_loops_answer : (out : List ℕ) → loop_count p ≡ 0 → Err NoLoops ≡ write_answer p out
+  no_loops_answer out z = rw (eq-eqb (loop_count p) 0 z) refl
+
+  pub no_loops_output : (out : List ℕ) → loop_count p ≡ 0 → out ≡ write_output p out
+  no_loops_output out z = rw (eq-eqb (loop_count p) 0 z) refl
 
   module _ (out : List ℕ) (some : loop_count p ≡ 0 → ⊥) where
     pub short_answer : (wanted : ℕ) → wanted ≡ length (file_of p) → length out < wanted → Err (TooShort wanted) ≡ write_answer p out
@@ -57,6 +66,12 @@ module _ (p : Places) where
 
     pub written_output : (o : List ℕ) → length (file_of p) ≤ length out → o ≡ pasted out 0 (file_of p) → o ≡ write_output p out
     written_output o h e = rw (ne_eqb (loop_count p) 0 some, le-leb (length (file_of p)) (length out) h, e, zero-add (length (file_of p))) refl
+
+pub records_joined : (s : Site) (ys : List (Bor Place)) → map (λ (y : Bor Place). y.now) ys ≡ places_of s → flat_map (λ (y : Bor Place). placed (place_table y.now)) ys ≡ records (site_places s)
+records_joined s ys e =
+    sym (flat_map-map (λ (p : Place). placed (place_table p)) (λ (y : Bor Place). y.now) ys)
+    ∙ ap (flat_map (λ (p : Place). placed (place_table p))) e
+    ∙ simp append-nil
 
 -- what was written is the one file of the site
 pub only_file : (s : Site) (out o : List ℕ) (end : ℕ) → (loop_count (site_places s) ≡ 0 → ⊥) → end ≡ length (file_of (site_places s)) → o ≡ pasted out 0 (file_of (site_places s)) → OnlyFile (site_places s) (take end o)

@@ -4,9 +4,9 @@ ghost use Rattle.site.specs.Loaded.{site_places};
 ghost use Rattle.site_write.specs.Refusals.{write_report};
 ghost use Rattle.site_write.specs.Writing.{write_answer, write_output, OnlyFile};
 
-use crate::length::{place_len, place_loops};
+use crate::length::{records_len, site_loops};
 use crate::paste::put;
-use crate::written::Written;
+use crate::written::put_all;
 use site::site::Site;
 use site_read::header::MARK;
 
@@ -26,11 +26,11 @@ pub struct WriteReport {
     pub value: usize,
 }
 
-impl WriteFault {
-    pub fn report(self) -> WriteReport
-        ensures { result ≡ write_report self }
-    {
-        match self {
+impl From<WriteFault> for WriteReport {
+    ghost from_gives = { λ e r. r ≡ write_report e };
+
+    fn from(e: WriteFault) -> WriteReport {
+        match e {
             WriteFault::NoLoops => WriteReport {
                 number: 4,
                 value: 5,
@@ -50,19 +50,15 @@ pub fn write_site(site: &Site, out: &mut [u8]) -> Result<usize, WriteFault>
     ensures output { out.new ≡ write_output (site_places site.now) out.old }
     ensures only_file { IfOk result (λ n. OnlyFile (site_places site.now) (take n out.new)) }
 {
-    let (first, second, third, fourth) = site.places();
-    let count = place_loops(first) + place_loops(second) + place_loops(third) + place_loops(fourth);
+    let count = site_loops(site);
     if count == 0 {
         return Err(WriteFault::NoLoops);
     }
-    let wanted = 6 + place_len(first) + place_len(second) + place_len(third) + place_len(fourth);
+    let wanted = 6 + records_len(site);
     if out.len() < wanted {
         return Err(WriteFault::TooShort(wanted));
     }
     let mark = put(out, 0, MARK);
     let head = put(out, mark, &[0, 1, count]);
-    let one = first.put_at(out, head);
-    let two = second.put_at(out, one);
-    let three = third.put_at(out, two);
-    Ok(fourth.put_at(out, three))
+    Ok(put_all(&site.places(), out, head))
 }

@@ -27,7 +27,7 @@ pub(crate) trait Written {
 }
 
 /// Writes one item after another.
-fn put_all<T: Written>(items: &[T], out: &mut [u8], at: usize) -> usize
+pub(crate) fn put_all<T: Written>(items: &[T], out: &mut [u8], at: usize) -> usize
     requires { at + length (flat_map T.Written.bytes items.now) ≤ length out.old }
     ensures end { result ≡ at + length (flat_map T.Written.bytes items.now) }
     ensures output { out.new ≡ pasted out.old at (flat_map T.Written.bytes items.now) }
@@ -37,6 +37,14 @@ fn put_all<T: Written>(items: &[T], out: &mut [u8], at: usize) -> usize
         end = item.put_at(out, end);
     }
     end
+}
+
+impl<T: Written> Written for &T {
+    ghost bytes = { λ x. T.Written.bytes x.now };
+
+    fn put_at(&self, out: &mut [u8], at: usize) -> usize {
+        (**self).put_at(out, at)
+    }
 }
 
 impl Written for RegionSet {

@@ -1,8 +1,8 @@
 //! What a site tells of itself.
-ghost use Rattle.std.specs.Prelude.{◌≡◌};
+ghost use Rattle.std.specs.Prelude.{◌≡◌, map};
 ghost use Rattle.loops.specs.declared.place.Place.TheVariants.{Vacant};
 ghost use Rattle.site.specs.Held.{vacant};
-ghost use Rattle.site.specs.Loaded.{site_places};
+ghost use Rattle.site.specs.Loaded.{site_places, places_of};
 ghost use Rattle.site.specs.Joint.{counted};
 
 use crate::site::Site;
@@ -32,15 +32,12 @@ impl Site {
     }
 
     /// Its places, in file order.
-    pub fn places(&self) -> (&Place, &Place, &Place, &Place)
-        ensures first { result.0.now ≡ self.now.joined.left.left }
-        ensures second { result.1.now ≡ self.now.joined.left.right }
-        ensures third { result.2.now ≡ self.now.joined.right.left }
-        ensures fourth { result.3.now ≡ self.now.joined.right.right }
+    pub fn places(&self) -> [&Place; 4]
+        ensures { map (λ p. p.now) result ≡ places_of self.now }
     {
         let left = &self.joined.left;
         let right = &self.joined.right;
-        (&left.left, &left.right, &right.left, &right.right)
+        [&left.left, &left.right, &right.left, &right.right]
     }
 
     /// The number of joint states, the product of the places' states; absent over the limits of traffics.
