@@ -1,5 +1,5 @@
 -- The turns of a loop that fills a `Vec` with what `many` reads.
-use Rattle.std.proofs.Common.{◌≡◌, ℕ, suc, ◌+◌, ◌-◌, ◌<◌, List, [], ◌∷◌, ◌++◌, map, Ok, Err, Result, sym, refl, ap, ◌∙◌, append_assoc, arith}
+use Rattle.std.proofs.Common.{◌≡◌, ℕ, suc, ◌+◌, ◌-◌, ◌<◌, List, [], ◌∷◌, ◌++◌, map, Ok, Err, Result, sym, refl, ap, ◌∙◌, append_assoc, arith, ◌≤◌, append-nil}
 use Rattle.site_read.specs.declared.fault.Fault.{Fault}
 use Rattle.std.proofs.lemmas.List.{map_push}
 use Rattle.loops.specs.declared.load_fault.LoadFault.{LoadFault}
@@ -28,6 +28,11 @@ module _ {X : Type 0} (p : List ℕ → Parsed X) where
   fill_stops xs n i bs y h e =
       let s : n - i ≡ suc (n - (i + 1)) = omega arith in
       rw (s, e) refl
+
+  pub fill_all : (xs : List X) (n i : ℕ) (bs : List ℕ) → n ≤ i → behind xs (many p (n - i) bs) ≡ Ok (xs, bs)
+  fill_all xs n i bs h =
+      let s : n - i ≡ 0 = omega arith in
+      rw (s, append-nil xs) refl
 
 -- a fault, or want of memory, of one value is that of the whole
 pub stops : {Y X W Z : Type 0} (f : Y → X) (g : W → Z) (s : Parsed X) (s' : Result Z Fault) (y : LoadFault) → ((e : Fault) → s ≡ Err e → s' ≡ Err e) → Loads f s (Err y) → Holds g s' (Err y)

@@ -1,7 +1,8 @@
 //! Reading a region loop from its record.
-ghost use Rattle.std.specs.Prelude.{◌≡◌, true, IfOk};
+ghost use Rattle.std.specs.Prelude.{◌≡◌, ◌≤◌, true, IfOk};
 ghost use Rattle.site_read.specs.Parse.{many, value_of};
 ghost use Rattle.site_read.specs.Fields.{row, regions};
+ghost use Rattle.site_read.specs.Tables.{lawful_rows};
 ghost use Rattle.loops.specs.Regions.{rows_of, numbered};
 ghost use Rattle.loops.specs.States.{deadlines};
 ghost use Rattle.loops.specs.Loading.{Holds, table_of};
@@ -20,6 +21,7 @@ fn load_rows(
     rest: &[u8],
 ) -> Result<(Vec<Region>, u16), LoadFault>
     ensures read { Holds (λ p. rows_of p.0.items) (value_of (many (row reader.record.place reader.record.size reader.count) reader.count rest.now)) result }
+    ensures lawful { 1 ≤ reader.count → reader.count ≤ 16 → IfOk result (λ p. lawful_rows (rows_of p.0.items) ≡ true) }
     ensures counted { IfOk result (λ p. (numbered 0 p.0.items ≡ true) × (p.1 ≡ deadlines (rows_of p.0.items))) }
 {
     let mut regions = Vec::new(heap);
