@@ -1,17 +1,10 @@
 -- One write after another.
-use Rattle.std.proofs.Common.{◌≡◌, ℕ, ◌+◌, ◌*◌, ◌<◌, ◌≤◌, List, [], ◌∷◌, ◌++◌, map, length, get_or, take, drop, sym, refl, ap, ◌∙◌, ap₂, append_assoc, add-zero, add_assoc, arith}
-use borrow.Rule.Slice.PartMut.{put_mid}
+use Rattle.std.proofs.Common.{◌≡◌, ℕ, ◌+◌, ◌*◌, ◌<◌, ◌≤◌, List, [], ◌∷◌, ◌++◌, map, length, get_or, take, drop, sym, refl, ap, ◌∙◌, ap₂, append_assoc, add_assoc, arith}
 use Rattle.std.specs.List.{flat_map}
 use Rattle.std.proofs.lemmas.List.Folds.{flat_map-map}
-use Rattle.std.proofs.lemmas.List.{drop-drop, take_at, drop_at, length-append, length-take-le, take-append-drop, take_more, flat_map_more}
+use Rattle.std.proofs.lemmas.List.{drop-drop, take_at, drop_at, length-append, length-take-le, take_more, flat_map_more}
 use Rattle.site_write.specs.Paste.{pasted}
 use Rattle.site_read.specs.Format.{word}
-
-pub mid_pasted : (xs ys bytes : List ℕ) (at k : ℕ) → ys ≡ bytes → k ≡ length bytes → put_mid at k xs ys ≡ pasted xs at bytes
-mid_pasted xs ys bytes at k p q = rw (p, q, drop-drop (length bytes) at xs) refl
-
-pub pasted_none : (out : List ℕ) (at : ℕ) → pasted out at [] ≡ out
-pasted_none out at = rw (add-zero at, take-append-drop at out) refl
 
 pub pasted_more : (out : List ℕ) (at : ℕ) (xs ys : List ℕ) → at + length xs ≤ length out → pasted (pasted out at xs) (at + length xs) ys ≡ pasted out at (xs ++ ys)
 pasted_more out at xs ys h =

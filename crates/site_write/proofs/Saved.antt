@@ -1,9 +1,9 @@
 -- Writing a site, place after place.
-use Rattle.std.proofs.Common.{◌≡◌, ℕ, ◌+◌, ◌<◌, ◌≤◌, List, ◌++◌, length, take, drop, Ok, Err, sym, refl, ap, ◌∙◌, ap₂, append-nil, Bor, map, zero-add, arith}
+use Rattle.std.proofs.Common.{◌≡◌, ℕ, ◌+◌, ◌≤◌, List, ◌++◌, length, take, drop, Ok, sym, refl, ap, ◌∙◌, ap₂, append-nil, Bor, map, zero-add, arith}
 use Rattle.std.proofs.lemmas.List.{length-append, take_at}
 use Rattle.std.specs.List.{flat_map}
 use Rattle.std.proofs.lemmas.List.Folds.{flat_map-map}
-use Rattle.std.proofs.lemmas.Bool.{eq-eqb, le-leb, lt-leb, ne_eqb}
+use Rattle.std.proofs.lemmas.Bool.{le-leb, ne_eqb}
 use Rattle.site_read.specs.Format.{Places, placed, loop_count, file_of, LawfulPlace, LawfulSite}
 use Rattle.site_read.specs.Sites.{site}
 use Rattle.site_read.proofs.Files.{files_are_read, only_files_are_read}
@@ -13,7 +13,6 @@ use Rattle.loops.specs.Places.{place_table}
 use Rattle.loops.specs.ContractLaws.{terms_lawful}
 use Rattle.site.specs.declared.site.Site.{Site}
 use Rattle.site.specs.Loaded.{site_places, places_of}
-use Rattle.site_write.specs.declared.write.WriteFault.TheVariants.{NoLoops, TooShort}
 use Rattle.site_write.specs.Paste.{pasted}
 use Rattle.site_write.specs.Writing.{write_answer, write_output, OnlyFile}
 use Rattle.site_write.proofs.Pastes.{pasted_more}
@@ -48,19 +47,7 @@ module _ (p : Places) where
   abbrev pub records : List ℕ
   records = placed p.first ++ (placed p.second ++ (placed p.third ++ placed p.fourth))
 
-  pub no_loops_answer : (out : List ℕ) → loop_count p ≡ 0 → Err NoLoops ≡ write_answer p out
-  no_loops_answer out z = rw (eq-eqb (loop_count p) 0 z) refl
-
-  pub no_loops_output : (out : List ℕ) → loop_count p ≡ 0 → out ≡ write_output p out
-  no_loops_output out z = rw (eq-eqb (loop_count p) 0 z) refl
-
   module _ (out : List ℕ) (some : loop_count p ≡ 0 → ⊥) where
-    pub short_answer : (wanted : ℕ) → wanted ≡ length (file_of p) → length out < wanted → Err (TooShort wanted) ≡ write_answer p out
-    short_answer wanted e h = rw (ne_eqb (loop_count p) 0 some, e, lt-leb (length (file_of p)) (length out) (omega arith)) refl
-
-    pub short_output : length out < length (file_of p) → out ≡ write_output p out
-    short_output h = rw (ne_eqb (loop_count p) 0 some, lt-leb (length (file_of p)) (length out) h) refl
-
     pub written_answer : (end : ℕ) → end ≡ length (file_of p) → length (file_of p) ≤ length out → Ok end ≡ write_answer p out
     written_answer end e h = rw (ne_eqb (loop_count p) 0 some, e, le-leb (length (file_of p)) (length out) h) refl
 

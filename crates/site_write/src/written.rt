@@ -15,6 +15,8 @@ use loops::region::{Region, RegionSet};
 use loops::region_loop::RegionLoop;
 use site_read::kind::Kind;
 
+// A struct that holds the buffer and the end would be no plainer: each contract would also say that it keeps the buffer.
+
 /// A part of a site, with the bytes that stand for it in a file.
 pub(crate) trait Written {
     ghost bytes: { Self → List ℕ };

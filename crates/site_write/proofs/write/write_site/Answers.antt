@@ -2,25 +2,8 @@ use Rattle.std.proofs.Common.{◌≡◌, ℕ, ◌+◌, ◌≤◌, List, [], ◌�
 use Rattle.site_read.specs.Format.{Places, loop_count, file_of}
 use Rattle.site.specs.Loaded.{site_places}
 use Rattle.site_write.specs.Paste.{pasted}
-use Rattle.site_write.proofs.Saved.{records, records_joined, part_more, no_loops_answer, no_loops_output, short_answer, short_output, written_answer, written_output, only_file}
+use Rattle.site_write.proofs.Saved.{records, records_joined, part_more, written_answer, written_output, only_file}
 use Rattle.site_write.proofs.write.write_site.Goals as goal
-
-pub returns-then-count-eq0 : goal.returns-then-count-eq0
-returns-then-count-eq0 c =
-    let p : Places = site_places c.args.site.now in
-    let none : loop_count p ≡ 0 = omega arith in
-    record { answer = no_loops_answer p c.args.out.now none; output = no_loops_output p c.args.out.now none; only_file = tt }
-
-pub returns-then-out-wanted : goal.returns-then-out-wanted
-returns-then-out-wanted c =
-    let p : Places = site_places c.args.site.now in
-    let some : loop_count p ≡ 0 → ⊥ = λ z. omega (arith, z) in
-    let l = c.records_len-wanted.ensures.value in
-    record {
-      answer = short_answer p c.args.out.now some _ l c.if-out-wanted.true;
-      output = short_output p c.args.out.now some (omega (arith, l));
-      only_file = tt;
-    }
 
 pub put_all-requires : goal.put_all-requires
 put_all-requires c =

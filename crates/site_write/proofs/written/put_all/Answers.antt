@@ -1,11 +1,7 @@
-use Rattle.std.proofs.Common.{◌≡◌, ℕ, ◌<◌, ◌≤◌, length, get_or, take, sym, ◌∙◌, arith}
-use Rattle.std.proofs.lemmas.List.{take_all}
+use Rattle.std.proofs.Common.{◌≡◌, ℕ, ◌<◌, ◌≤◌, length, get_or, sym, ◌∙◌, arith}
 use Rattle.std.proofs.lemmas.List.Folds.{length-flat_map-take}
-use Rattle.site_write.proofs.Pastes.{pasted_none, next_end, next_output}
+use Rattle.site_write.proofs.Pastes.{next_end, next_output}
 use Rattle.site_write.proofs.written.put_all.Goals as goal
-
-pub loop-item-init : goal.loop-item-init
-loop-item-init g c = (omega arith, sym (pasted_none c.args.out.now c.args.at))
 
 pub put_at-end-requires : goal.put_at-end-requires
 put_at-end-requires g c =
@@ -23,8 +19,3 @@ loop-item-preserved g c =
     let e = next_end g.T.Written.bytes c.args.items.now i c.args.at c.loop-item.end x h c.loop-item.invariant.0 in
     let o = next_output g.T.Written.bytes c.args.out.now c.loop-item.out c.args.items.now i c.args.at c.loop-item.end x h c.loop-item.invariant.0 room c.loop-item.invariant.1 in
     (c.put_at-end.ensures.end ∙ (rw at at e), c.put_at-end.ensures.output ∙ (rw at at o))
-
-pub returns : goal.returns
-returns g c =
-    let all : take c.loop-item.item-index c.args.items.now ≡ c.args.items.now = take_all c.loop-item.item-index c.args.items.now (omega arith) in
-    record { end = rw all at c.loop-item.invariant.0; output = rw all at c.loop-item.invariant.1 }

@@ -2,13 +2,10 @@ use Rattle.std.proofs.Common.{◌≡◌, ℕ, List, [], ◌∷◌, length, vec_i
 use Rattle.site_read.specs.Format.{encode_row}
 use Rattle.loops.specs.Regions.{row_of}
 use Rattle.loops.specs.Loading.{table_of}
-use Rattle.loops.proofs.Bounds.{region_count, few_regions}
+use Rattle.loops.proofs.Bounds.{region_count}
 use Rattle.site_write.specs.Paste.{pasted}
 use Rattle.site_write.proofs.Pastes.{items_fit, items_end, items_output}
 use Rattle.site_write.proofs.written.RegionLoopWritten.put_at.Goals as goal
-
-pub overflow_cast-regions : goal.overflow_cast-regions
-overflow_cast-regions c = let f = few_regions c.args.self.now in omega (arith, f, ap length c.regions-regions.ensures)
 
 pub put_all-requires : goal.put_all-requires
 put_all-requires c =
