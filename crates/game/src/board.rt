@@ -11,6 +11,7 @@ ghost use Rattle.game.specs.Counsel.{ExactlySafe, LowestSafe, LeadsDown};
 
 use crate::map_fault::MapFault;
 use crate::support::found::standing_next;
+use traffic::next_states::next_states;
 use traffic::{Size, Traffic};
 
 /// A traffic, and a map that has a mark for each of its states.
@@ -86,12 +87,10 @@ impl<T: Traffic> Board<'_, T> {
         ensures { result ≡ spoiler_by (T.meaning self.entry.traffic.now) (on self.entry.map.now) state mv }
     {
         let mut worst = None;
-        let mut from = 0;
-        while let Some(t) = self.traffic.next_from(state, mv, from) {
+        for t in next_states(self.traffic, state, mv) {
             if self.map[t] > 0 && comes_first(self.map, t, worst) {
                 worst = Some(t);
             }
-            from = t + 1;
         }
         worst
     }
