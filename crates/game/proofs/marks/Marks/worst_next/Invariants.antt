@@ -1,6 +1,6 @@
 use Rattle.game.specs.Standing.{on}
 use Rattle.game.proofs.Choosing.{Passing}
-use Rattle.game.proofs.board.Board.worst_next.Given as goal
+use Rattle.game.proofs.marks.Marks.worst_next.Given as goal
 
 abbrev pub invariant-loop-t : goal.invariant-loop-t
 invariant-loop-t g l =

@@ -1,7 +1,7 @@
 use Rattle.std.proofs.Common.{◌≡◌, ℕ, ◌<◌, false}
 use Rattle.game.specs.Game.{permitted_by}
 use Rattle.game.specs.Standing.{on}
-use Rattle.game.proofs.board.Board.lowest_permitted.Given as goal
+use Rattle.game.proofs.marks.Marks.lowest_permitted.Given as goal
 
 -- no move below `mv` is permitted
 abbrev pub invariant-loop-mv : goal.invariant-loop-mv
