@@ -38,12 +38,7 @@ impl<T: Traffic> Marks<'_, '_, T> {
     fn lowest_permitted(&self, state: usize) -> Option<usize>
         ensures { result ≡ pick_by (T.meaning self.now.traffic.now) (on self.now.map.now) state }
     {
-        for mv in 0..=self.size.loops {
-            if self.standing_next(None, state, mv).is_some() {
-                return Some(mv);
-            }
-        }
-        None
+        (0..=self.size.loops).find(|mv| self.standing_next(None, state, *mv).is_some())
     }
 
     // The next state with the smallest mark above 0, the lower number among equals.
