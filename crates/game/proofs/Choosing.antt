@@ -1,19 +1,22 @@
 -- What the pick and the spoiler find, by any marking.
-use Rattle.std.proofs.Common.{◌≡◌, ℕ, zero, suc, ◌+◌, ◌<◌, ◌≤◌, Bool, true, false, not, ◌&&◌, ◌||◌, ltb, ◌⊎◌, List, IfSome, Some, None, Option, sym, refl, ap, ◌∙◌, subst, ap₂, inl, inr, add-one, arith, MatchOption}
-use Rattle.std.proofs.lemmas.Bool.{cases_Bool, cases_lt, cases_eq, both_ways, and_parts, and_from, or_cases, or_left, or_right, not-true, not_from_false, ltb-true, lt-ltb, ltb-false, leb-true, le-leb, eqb-true, eq-eqb}
+use Rattle.std.proofs.Common.{◌≡◌, ℕ, zero, suc, ◌+◌, ◌<◌, ◌≤◌, Bool, true, false, not, ◌&&◌, ◌||◌, ltb, ◌⊎◌, List, [], ◌∷◌, IfSome, Some, None, Option, sym, refl, ap, ◌∙◌, subst, ap₂, inl, inr, add-one, arith, MatchOption}
+use Rattle.std.proofs.lemmas.Bool.{cases_Bool, cases_lt, cases_eq, both_ways, and_parts, and_from, or_cases, or_left, or_right, not-true, not_from_false, false_from_ne_true, ltb-true, lt-ltb, ltb-false, leb-true, le-leb, eqb-true, eq-eqb}
 use Rattle.traffic.specs.Searches.{every_below, least}
 use Rattle.traffic.specs.Meaning.{Meaning, Lawful}
-use Rattle.traffic.specs.Answered.{within_limits}
-use Rattle.traffic.specs.Found.{every_decides, least_some, least_none, least_is, least_is_none}
+use Rattle.traffic.specs.declared.Size.{Size}
+use Rattle.traffic.specs.Answered.{within_limits, size_of}
+use Rattle.traffic.specs.NextStates.{next_states_from, next_states}
+use Rattle.traffic.proofs.Asked.{within_parts, size_some, next_none}
+use Rattle.traffic.proofs.Following.{nothing_left, first_left}
+use Rattle.traffic.specs.Found.{Least, every_decides, least_some, least_none, least_is, least_is_none}
 use Rattle.game.specs.Game.{keeps_in, permitted_by}
 use Rattle.game.specs.Standing.{on, standing}
 use Rattle.game.specs.Choice.{pick_by, threat, comes_before, worst, spoiler_by, ahead}
-use Rattle.game.proofs.Kept.{false_unless}
 
--- a move that is found to keep to the states of mark 0 is permitted
-pub found_permitted : (M : Meaning) (map : List ℕ) (s m : ℕ) (found : Bool) → within_limits M ≡ true → found ≡ (within_limits M && keeps_in M (standing map None) s m) → found ≡ permitted_by M (on map) s m
+-- a move that keeps to the states of mark 0 is permitted
+pub found_permitted : (M : Meaning) (map : List ℕ) (s m : ℕ) (found : Bool) → found ≡ keeps_in M (standing map None) s m → found ≡ permitted_by M (on map) s m
 unfolding permitted_by standing
-found_permitted M map s m found w e = e ∙ ap (λ b. b && keeps_in M (standing map None) s m) w
+found_permitted M map s m found e = e
 
 module _ (M : Meaning) (marks : ℕ → ℕ) (s : ℕ) where
   pub pick_is : (m : ℕ) → m ≤ M.loops → permitted_by M marks s m ≡ true → ((k : ℕ) → k < m → permitted_by M marks s k ≡ false) → Some m ≡ pick_by M marks s
@@ -63,11 +66,11 @@ module _ (M : Meaning) (marks : ℕ → ℕ) (s m : ℕ) where
   threat_parts t e = let p = and_parts _ _ e in (p.0, ltb-true _ _ p.1)
 
   -- what is no next state is no threat, nor is a state of mark 0
-  pub not_next : (t : ℕ) → M.leads s m t ≡ false → threat M marks s m t ≡ false
-  not_next t e = false_unless _ (λ h. both_ways _ e (threat_parts t h).0)
+  not_next : (t : ℕ) → M.leads s m t ≡ false → threat M marks s m t ≡ false
+  not_next t e = false_from_ne_true _ (λ h. both_ways _ e (threat_parts t h).0)
 
-  pub unmarked : (t : ℕ) → marks t ≤ 0 → threat M marks s m t ≡ false
-  unmarked t z = false_unless _ (λ h. omega (arith, (threat_parts t h).1))
+  unmarked : (t : ℕ) → marks t ≤ 0 → threat M marks s m t ≡ false
+  unmarked t z = false_from_ne_true _ (λ h. omega (arith, (threat_parts t h).1))
 
   -- t is a threat, and comes before the others below `from`
   pub record First (from t : ℕ) : Type 0 where
@@ -100,21 +103,21 @@ module _ (M : Meaning) (marks : ℕ → ℕ) (s m : ℕ) where
           elim (before u h e) [ inl b ↦ f.first u b e | inr q ↦ ap (comes_before marks w) q ∙ here (ap (threat M marks s m) (sym q) ∙ e) ];
     }
 
-    pub first_passed : (found : Option ℕ) → threat M marks s m t ≡ false → FoundFirst from found → FoundFirst (t + 1) found
+    first_passed : (found : Option ℕ) → threat M marks s m t ≡ false → FoundFirst from found → FoundFirst (t + 1) found
     first_passed None n f =
         λ u h.
-        false_unless _
+        false_from_ne_true _
         (λ e. elim (before u h e) [ inl b ↦ both_ways _ (f u b) e | inr q ↦ both_ways _ n (ap (threat M marks s m) (sym q) ∙ e) ])
     first_passed (Some w) n f = stays w f (λ e. absurd (both_ways _ n e))
 
-    pub first_kept : (found : Option ℕ) → ahead marks t found ≡ false → FoundFirst from found → FoundFirst (t + 1) found
+    first_kept : (found : Option ℕ) → ahead marks t found ≡ false → FoundFirst from found → FoundFirst (t + 1) found
     first_kept None n f = absurd (both_ways _ n refl)
     first_kept (Some w) n f =
         let l = ltb-false _ _ n in
         stays w f
         (λ _. low_comes marks w t (elim (cases_lt (marks w) (marks t)) [ inl h ↦ inl h | inr h ↦ inr (omega arith, omega (arith, f.below)) ]))
 
-    pub first_replaced : (found : Option ℕ) → threat M marks s m t ≡ true → ahead marks t found ≡ true → FoundFirst from found → First (t + 1) t
+    first_replaced : (found : Option ℕ) → threat M marks s m t ≡ true → ahead marks t found ≡ true → FoundFirst from found → First (t + 1) t
     first_replaced found y a f =
         record {
           below = omega arith;
@@ -164,7 +167,7 @@ module _ (M : Meaning) (marks : ℕ → ℕ) (s m : ℕ) where
       )
 
   module _ (law : Lawful M) where
-    pub first_within : (n from : ℕ) (found : Option ℕ) → M.states ≤ n → FoundFirst from found → IfSome found (λ t. t < n)
+    first_within : (n from : ℕ) (found : Option ℕ) → M.states ≤ n → FoundFirst from found → IfSome found (λ t. t < n)
     first_within n from None h f = tt
     first_within n from (Some t) h f = omega (arith, (law.leads_within s m t (threat_parts t f.threatens).0).2)
 
@@ -173,12 +176,12 @@ module _ (M : Meaning) (marks : ℕ → ℕ) (s m : ℕ) where
       below_from : (u : ℕ) → u < M.states → threat M marks s m u ≡ true → u < from
       below_from u h e = elim (cases_lt u from) [ inl b ↦ b | inr a ↦ absurd (both_ways _ (rest u a h) e) ]
 
-      pub first_is_spoiler : (found : Option ℕ) → FoundFirst from found → found ≡ spoiler_by M marks s m
+      first_is_spoiler : (found : Option ℕ) → FoundFirst from found → found ≡ spoiler_by M marks s m
       unfolding spoiler_by
       first_is_spoiler None f =
           sym
           (least_is_none (worst M marks s m) M.states 0
-          (λ u a b. false_unless _ (λ e. let y = (worst_parts u e).0 in both_ways _ (f u (below_from u (omega arith) y)) y)))
+          (λ u a b. false_from_ne_true _ (λ e. let y = (worst_parts u e).0 in both_ways _ (f u (below_from u (omega arith) y)) y)))
       first_is_spoiler (Some t) f =
           let high : t < M.states = (law.leads_within s m t (threat_parts t f.threatens).0).2 in
           sym
@@ -188,13 +191,57 @@ module _ (M : Meaning) (marks : ℕ → ℕ) (s m : ℕ) where
             low = omega arith;
             high = omega arith;
             before = λ u a b.
-                false_unless _
+                false_from_ne_true _
                 (λ e.
                 let p = worst_parts u e in
                 let h : u < M.states = omega arith in
                 omega
                 (arith, comes_low marks u t (p.1 t high f.threatens), comes_low marks t u (f.first u (below_from u h p.0) p.0)));
           }))
+
+    -- of the next states those in `left` are still to come, and of the threats among the others `found` is the first
+    pub record Passing (left : List ℕ) (found : Option ℕ) : Type 0 where
+      pub from : ℕ
+      pub rest : left ≡ next_states_from M s m from
+      pub first : FoundFirst from found
+
+    pub passing_none : (left : List ℕ) → left ≡ next_states M s m → Passing left None
+    passing_none left e = record { from = 0; rest = e; first = first_none }
+
+    -- t comes next
+    module _ (t : ℕ) (left now : List ℕ) (found : Option ℕ) (k : Passing now found) (e : now ≡ t ∷ left) where
+      next : (within_limits M ≡ true) × Least (M.leads s m) k.from M.states t × (left ≡ next_states_from M s m (t + 1))
+      next = first_left M s m k.from t left (sym e ∙ k.rest)
+
+      between : (u : ℕ) → k.from ≤ u → u < t → threat M marks s m u ≡ false
+      between u a b = not_next u (next.1.before u a b)
+
+      pub passing_at : (M.states ≤ 32768) × (t < M.states)
+      passing_at = let f = next in ((within_parts M f.0).0, f.1.high)
+
+      pub passing_within : (n : ℕ) (z : Size) → size_of M ≡ Some z → z.states ≤ n → (t < n) × IfSome found (λ w. w < n)
+      passing_within n z told h =
+          let same = (size_some M z told).2 in
+          (omega (arith, passing_at.1), first_within n k.from found (omega arith) k.first)
+
+      after : (o : Option ℕ) → FoundFirst (t + 1) o → Passing left o
+      after o f = record { from = t + 1; rest = next.2; first = f }
+
+      pub passing_passed : marks t ≤ 0 → Passing left found
+      passing_passed z = after found (first_passed k.from t next.1.low between found (unmarked t z) k.first)
+
+      pub passing_kept : ahead marks t found ≡ false → Passing left found
+      passing_kept n = after found (first_kept k.from t next.1.low between found n k.first)
+
+      pub passing_replaced : 0 < marks t → ahead marks t found ≡ true → Passing left (Some t)
+      passing_replaced y a =
+          after (Some t) (first_replaced k.from t next.1.low between found (threat_is t next.1.passes y) a k.first)
+
+    -- all next states are passed
+    pub passing_over : (left : List ℕ) (found : Option ℕ) → within_limits M ≡ true → Passing left found → left ≡ [] → found ≡ spoiler_by M marks s m
+    passing_over left found w k e =
+        let none = next_none M s m k.from w (sym (nothing_left M s m k.from (sym e ∙ k.rest))) in
+        first_is_spoiler k.from (λ u a b. not_next u (none u a b)) found k.first
 
     -- the spoiler is the first of all threats
     pub spoiler_first : FoundFirst M.states (spoiler_by M marks s m)

@@ -2,6 +2,7 @@ pub mod Kept
 pub mod Rounds
 pub mod Rules
 mod Found
+mod Searched
 mod Supports
 mod Midway
 mod Steady

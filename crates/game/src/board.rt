@@ -1,8 +1,8 @@
 //! The board of a game: a traffic, and a map of marks for its states, from any caller. It answers about a state whether a
 //! move is permitted, the pick and the spoiler. On a map that synthesis filled for the same traffic, the answers are those
 //! of the game.
-ghost use Rattle.std.specs.Prelude.{◌≡◌, ◌<◌, ◌≤◌, true, length, IfSome, Some};
-ghost use Rattle.traffic.specs.Answered.{within_limits, sized, size_of};
+ghost use Rattle.std.specs.Prelude.{◌≡◌, ◌<◌, length, IfSome, Some, None, MatchResult};
+ghost use Rattle.traffic.specs.Answered.{sized};
 ghost use Rattle.game.specs.Game.{permitted_by};
 ghost use Rattle.game.specs.Choice.{pick_by, ahead, spoiler_by};
 ghost use Rattle.game.specs.Standing.{on};
@@ -10,7 +10,8 @@ ghost use Rattle.game.specs.Maps.{turned_away, unless, Filled};
 ghost use Rattle.game.specs.Counsel.{ExactlySafe, LowestSafe, LeadsDown};
 
 use crate::map_fault::MapFault;
-use crate::support::found::standing_next;
+use crate::marks::Marks;
+use traffic::next_states::next_states;
 use traffic::{Size, Traffic};
 
 /// A traffic, and a map that has a mark for each of its states.
@@ -32,10 +33,32 @@ fn comes_first(map: &[u16], t: usize, found: Option<usize>) -> bool
     }
 }
 
-impl<T: Traffic> Board<'_, T> {
-    /// The traffic's size, if the map serves for a call about this state.
-    pub fn admit(self, state: usize) -> Result<Size, MapFault>
-        ensures { result ≡ unless (turned_away (T.meaning self.entry.traffic.now) (length self.entry.map.now) state) (sized (T.meaning self.entry.traffic.now)) }
+impl<T: Traffic> Marks<'_, '_, T> {
+    // The lowest permitted move.
+    fn lowest_permitted(&self, state: usize) -> Option<usize>
+        ensures { result ≡ pick_by (T.meaning self.now.traffic.now) (on self.now.map.now) state }
+    {
+        (0..=self.size.loops).find(|mv| self.standing_next(None, state, *mv).is_some())
+    }
+
+    // The next state with the smallest mark above 0, the lower number among equals.
+    fn worst_next(&self, state: usize, mv: usize) -> Option<usize>
+        ensures { result ≡ spoiler_by (T.meaning self.now.traffic.now) (on self.now.map.now) state mv }
+    {
+        let mut worst = None;
+        for t in next_states(self.traffic, state, mv) {
+            if self.map[t] > 0 && comes_first(self.map, t, worst) {
+                worst = Some(t);
+            }
+        }
+        worst
+    }
+}
+
+impl<'a, T: Traffic> Board<'a, T> {
+    // The marks for a call about this state, if the map serves for it.
+    fn marks(self, state: usize) -> Result<Marks<'a, 'a, T>, MapFault>
+        ensures { MatchResult result (λ m. (turned_away (T.meaning self.entry.traffic.now) (length self.entry.map.now) state ≡ None) × (m.traffic ≡ self.entry.traffic) × (m.map ≡ self.entry.map)) (λ f. turned_away (T.meaning self.entry.traffic.now) (length self.entry.map.now) state ≡ Some f) }
     {
         let size = self.traffic.size().ok_or(MapFault::OverLimits)?;
         if self.map.len() < size.states {
@@ -44,7 +67,18 @@ impl<T: Traffic> Board<'_, T> {
         if state >= size.states {
             return Err(MapFault::NoSuchState);
         }
-        Ok(size)
+        Ok(Marks {
+            traffic: self.traffic,
+            size,
+            map: self.map,
+        })
+    }
+
+    /// The traffic's size, if the map serves for a call about this state.
+    pub fn admit(self, state: usize) -> Result<Size, MapFault>
+        ensures { result ≡ unless (turned_away (T.meaning self.entry.traffic.now) (length self.entry.map.now) state) (sized (T.meaning self.entry.traffic.now)) }
+    {
+        Ok(self.marks(state)?.size)
     }
 
     /// Whether a move is permitted in a state: it is legal and all its next states have mark 0.
@@ -52,22 +86,7 @@ impl<T: Traffic> Board<'_, T> {
         ensures answer { result ≡ unless (turned_away (T.meaning self.entry.traffic.now) (length self.entry.map.now) state) (permitted_by (T.meaning self.entry.traffic.now) (on self.entry.map.now) state mv) }
         ensures safe { Filled (T.meaning self.entry.traffic.now) self.entry.map.now → ExactlySafe (T.meaning self.entry.traffic.now) state mv result }
     {
-        self.admit(state)?;
-        Ok(standing_next(self.traffic, self.map, None, state, mv).is_some())
-    }
-
-    // The lowest permitted move.
-    fn lowest_permitted(self, size: Size, state: usize) -> Option<usize>
-        requires sized { size_of (T.meaning self.traffic.now) ≡ Some size }
-        requires room { size.states ≤ length self.map.now }
-        ensures { result ≡ pick_by (T.meaning self.entry.traffic.now) (on self.entry.map.now) state }
-    {
-        for mv in 0..=size.loops {
-            if standing_next(self.traffic, self.map, None, state, mv).is_some() {
-                return Some(mv);
-            }
-        }
-        None
+        Ok(self.marks(state)?.standing_next(None, state, mv).is_some())
     }
 
     /// The lowest permitted move of a state, so that silence comes first; absent where none is permitted.
@@ -75,25 +94,7 @@ impl<T: Traffic> Board<'_, T> {
         ensures answer { result ≡ unless (turned_away (T.meaning self.entry.traffic.now) (length self.entry.map.now) state) (pick_by (T.meaning self.entry.traffic.now) (on self.entry.map.now) state) }
         ensures safe { Filled (T.meaning self.entry.traffic.now) self.entry.map.now → LowestSafe (T.meaning self.entry.traffic.now) state result }
     {
-        let size = self.admit(state)?;
-        Ok(self.lowest_permitted(size, state))
-    }
-
-    // The next state with the smallest mark above 0, the lower number among equals.
-    fn worst_next(self, state: usize, mv: usize) -> Option<usize>
-        requires limits { within_limits (T.meaning self.traffic.now) ≡ true }
-        requires room { (T.meaning self.traffic.now).states ≤ length self.map.now }
-        ensures { result ≡ spoiler_by (T.meaning self.entry.traffic.now) (on self.entry.map.now) state mv }
-    {
-        let mut worst = None;
-        let mut from = 0;
-        while let Some(t) = self.traffic.next_from(state, mv, from) {
-            if self.map[t] > 0 && comes_first(self.map, t, worst) {
-                worst = Some(t);
-            }
-            from = t + 1;
-        }
-        worst
+        Ok(self.marks(state)?.lowest_permitted(state))
     }
 
     /// The plants' counterplay to a move: the next state with the smallest mark above 0, the lower number among equals;
@@ -102,7 +103,6 @@ impl<T: Traffic> Board<'_, T> {
         ensures answer { result ≡ unless (turned_away (T.meaning self.entry.traffic.now) (length self.entry.map.now) state) (spoiler_by (T.meaning self.entry.traffic.now) (on self.entry.map.now) state mv) }
         ensures down { Filled (T.meaning self.entry.traffic.now) self.entry.map.now → LeadsDown (T.meaning self.entry.traffic.now) state mv result }
     {
-        self.admit(state)?;
-        Ok(self.worst_next(state, mv))
+        Ok(self.marks(state)?.worst_next(state, mv))
     }
 }

@@ -7,6 +7,7 @@
 
 pub mod board;
 pub mod map_fault;
+mod marks;
 mod round;
 pub mod solution;
 mod standing;

@@ -2,3 +2,4 @@ pub mod Asked
 mod Places
 mod Answering
 mod Nexts
+pub mod Following

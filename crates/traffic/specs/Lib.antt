@@ -1,6 +1,7 @@
 pub mod Searches
 pub mod Meaning
 pub mod Answered
+pub mod NextStates
 pub mod Models
 pub mod Pairing
 pub mod EmptyLaws
