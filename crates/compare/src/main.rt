@@ -48,6 +48,7 @@ fn unhex(heap: Global, hex: &[u8]) -> Result<Option<Vec<u8>>, AllocError> {
         let [high, low] = pair else {
             return Ok(None);
         };
+        // a `?` on an Option cannot leave a function that may also want memory
         let Some(b) = byte(*high, *low) else {
             return Ok(None);
         };

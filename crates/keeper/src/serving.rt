@@ -25,6 +25,7 @@ pub enum ServeFault {
     Memory,
 }
 
+// By hand, since clauses name the fault that a `?` makes, and a derived From says nothing of it.
 impl From<Refusal> for ServeFault {
     ghost from_gives = { λ e r. r ≡ Synthesis e };
 

@@ -11,6 +11,7 @@ pub enum LoadFault {
     Memory,
 }
 
+// By hand, since clauses name the fault that a `?` makes, and a derived From says nothing of it.
 impl From<Fault> for LoadFault {
     ghost from_gives = { λ e r. r ≡ File e };
 

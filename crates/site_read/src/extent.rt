@@ -24,6 +24,7 @@ fn skip_many<'a, F: Fn(&'a [u8]) -> Result<&'a [u8], Fault>>(
 }
 
 impl RecordReader {
+    // Reads what loading reads again and keeps nothing, so that every fault is found before anything is allocated.
     pub(crate) fn skip_gaps<'a>(self, rest: &'a [u8]) -> Result<&'a [u8], Fault>
         ensures { seen_rest result ≡ rest_of (gaps self.place self.size rest.now) }
     {

@@ -26,6 +26,7 @@ pub enum Fault {
 }
 
 /// What a refused file is reported by: a number, a loop (0 for the whole file) and a byte offset.
+// The number stands here alone: the refusals' numbers are given out by rule, and a fault is an enum.
 #[derive(Clone, Copy, PartialEq, Eq, Debug)]
 pub struct Report {
     pub number: u8,

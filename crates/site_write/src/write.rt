@@ -20,6 +20,7 @@ pub enum WriteFault {
 }
 
 /// What a refused write is reported by: a number, and the byte offset (of the loop count) or the bytes wanted.
+// The number stands here alone: the refusals' numbers are given out by rule, and a fault is an enum.
 #[derive(Clone, Copy, PartialEq, Eq, Debug)]
 pub struct WriteReport {
     pub number: u8,
