@@ -19,17 +19,6 @@ unfolding permitted_by standing
 found_permitted M map s m found e = e
 
 module _ (M : Meaning) (marks : ℕ → ℕ) (s : ℕ) where
-  pub pick_is : (m : ℕ) → m ≤ M.loops → permitted_by M marks s m ≡ true → ((k : ℕ) → k < m → permitted_by M marks s k ≡ false) → Some m ≡ pick_by M marks s
-  unfolding pick_by
-  pick_is m h y lower =
-      sym
-      (least_is (permitted_by M marks s) (suc M.loops) 0 m
-      (record { passes = y; low = omega arith; high = omega arith; before = λ k _ b. lower k b }))
-
-  pub pick_none : ((k : ℕ) → k < suc M.loops → permitted_by M marks s k ≡ false) → None ≡ pick_by M marks s
-  unfolding pick_by
-  pick_none none = sym (least_is_none (permitted_by M marks s) (suc M.loops) 0 (λ k _ b. none k (omega arith)))
-
   pub pick_found : (m : ℕ) → pick_by M marks s ≡ Some m → (permitted_by M marks s m ≡ true) × ((k : ℕ) → k < m → permitted_by M marks s k ≡ false)
   unfolding pick_by
   pick_found m e =

@@ -1,11 +1,8 @@
-use Rattle.std.proofs.Common.{sym, ◌∙◌, rules}
+use Rattle.std.proofs.Common.{sym, rules}
 use Rattle.traffic.proofs.Asked.{size_some}
-use Rattle.game.proofs.Choosing.{passing_none, passing_at, passing_within, passing_passed, passing_kept, passing_replaced, passing_over}
+use Rattle.game.proofs.Choosing.{passing_at, passing_within, passing_passed, passing_kept, passing_replaced, passing_over}
 use Rattle.game.proofs.marks.Marks.worst_next.Goals as goal
 use Rattle.game.proofs.marks.Marks.worst_next.Goals.{else-self-t-gt0-via-then-self-t-gt0+else-comes_first, else-self-t-gt0-via-else-self-t-gt0}
-
-pub loop-t-init : goal.loop-t-init
-loop-t-init g c = passing_none _ _ _ _ _ _ (c.into_iter-t-iterator.ensures.into_iter_gives ∙ c.next_states-t-items.ensures)
 
 pub offset_bounds-self-t : goal.offset_bounds-self-t
 offset_bounds-self-t g c =
