@@ -18,6 +18,7 @@ fn told(answer: Result<Tally, Refusal>) -> Option<Tally> {
 }
 
 /// How often to solve: the program's argument.
+// As station reads its own: no crate is shared by programs alone.
 fn repetitions(rt: &HostRuntime) -> anyhow::Result<u32> {
     let mut arguments = env::args(rt)?.skip(1);
     let argument = arguments

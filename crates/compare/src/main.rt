@@ -4,6 +4,8 @@
 //! begins with `#` is a comment. An accepted file is also written back.
 #![tactic(auto)]
 
+ghost use Rattle.std.specs.Prelude.{◌<◌, IfSome};
+
 use anyhow::anyhow;
 use site::site::Site;
 use site_write::write::{WriteFault, write_site};
@@ -21,6 +23,39 @@ struct Tally {
     agree: u32,
     accepted: u32,
     written_back: u32,
+}
+
+fn digit(b: u8) -> Option<u8>
+    ensures { IfSome result (λ d. d < 16) }
+{
+    match b {
+        b'0'..=b'9' => Some(b - b'0'),
+        b'A'..=b'F' => Some(b - b'A' + 10),
+        _ => None,
+    }
+}
+
+fn byte(high: u8, low: u8) -> Option<u8> {
+    let high = digit(high)?;
+    let low = digit(low)?;
+    Some(high * 16 + low)
+}
+
+/// The bytes that a text in hex stands for, or none where it is no hex.
+// By hand: the library's hex takes small letters too, and tells want of memory as a fault of the text.
+fn unhex(heap: Global, hex: &[u8]) -> Result<Option<Vec<u8>>, AllocError> {
+    let mut bytes = Vec::new(heap);
+    for pair in hex.chunks(2) {
+        let [high, low] = pair else {
+            return Ok(None);
+        };
+        // a `?` on an Option cannot leave a function that may also want memory
+        let Some(b) = byte(*high, *low) else {
+            return Ok(None);
+        };
+        bytes.push(b)?;
+    }
+    Ok(Some(bytes))
 }
 
 fn is_untouched(buffer: &[u8]) -> bool {
@@ -76,7 +111,7 @@ fn compare_case(
     hex: &str,
     expected: &str,
 ) -> anyhow::Result<()> {
-    let file = hex::decode(rt.alloc(), hex).map_err(|_| anyhow!("a case is no hex"))?;
+    let file = unhex(rt.alloc(), hex.as_bytes())?.ok_or_else(|| anyhow!("a case is no hex"))?;
     let verdict = Verdict::of(rt.alloc(), &file)?;
     let line = format!(in rt.alloc(); "{verdict}")?;
     let agrees = line.as_str() == expected;

@@ -15,7 +15,7 @@ pub struct Armed {
     pub tally: Tally,
 }
 
-// The answer, and the map afterwards.
+// The answer, and the map afterwards. Apart from synthesise, so that the guarantee is proved over one exit.
 fn solve_and_arm<T: Traffic>(traffic: &T, start: usize, map: &mut [u16]) -> Result<Armed, Refusal>
     ensures answer { result ≡ armed start (solved (T.meaning traffic.now) start map.old) }
     ensures after { map.new ≡ map_after (T.meaning traffic.now) start map.old }

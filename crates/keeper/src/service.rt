@@ -45,13 +45,12 @@ pub enum Answer {
 fn said(answer: Result<Answer, MapFault>) -> Answer
     ensures { result ≡ said_of answer }
 {
-    match answer {
-        Ok(answer) => answer,
-        Err(fault) => Answer::Refused(SlotFault::Map(fault)),
-    }
+    answer.unwrap_or_else(|fault| Answer::Refused(SlotFault::Map(fault)))
 }
 
 // One call on a ready keeper.
+// The two questions about any state stand in both phases: one function for them would hand back an Option of an answer, and
+// each phase would have to name them all the same.
 fn ask_ready<T: Traffic>(keeper: Ready, board: Board<'_, T>, call: Call) -> (Keeper, Answer)
     ensures { result ≡ stepped (T.meaning board.entry.traffic.now) board.entry.map.now (AtReady keeper) call }
 {

@@ -63,7 +63,7 @@ fn perform_all<T: Traffic>(
     (keeper, answers)
 }
 
-// The answers, the keeper and the map afterwards.
+// The answers, the keeper and the map afterwards. Apart from serve, so that the guarantee is proved over one exit.
 fn arm_and_perform<T: Traffic>(
     heap: Global,
     traffic: &T,

@@ -15,6 +15,7 @@ pub enum SlotFault {
 
 impl SlotFault {
     /// The refusal's number.
+    // A method: u8::from(fault) would not say that it is the refusal's number.
     pub fn number(self) -> u8
         ensures { result ≡ number self }
     {

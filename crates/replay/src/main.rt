@@ -17,6 +17,7 @@ fn number(word: &str) -> Option<usize> {
     word.parse().ok()
 }
 
+// By functions of its own: the text of a call is this program's, and FromStr cannot stand here for a type of another crate.
 /// A call that names a move or a state.
 fn call_with(name: &str, word: &str) -> Option<Call> {
     let n = number(word)?;

@@ -38,8 +38,8 @@ pub enum Move {
     Send(usize),
 }
 
-impl Move {
-    pub fn of(mv: usize) -> Move {
+impl From<usize> for Move {
+    fn from(mv: usize) -> Move {
         match mv {
             0 => Move::Silence,
             place => Move::Send(place),
@@ -65,9 +65,10 @@ pub struct Check {
 }
 
 impl Check {
+    // No Display: it needs the site, and a state that the site has not ends the program.
     pub fn print(self, rt: &HostRuntime, site: &Site, number: u32) -> anyhow::Result<()> {
         let before = Group::of(site, self.state)?;
-        let mv = Move::of(self.mv);
+        let mv = Move::from(self.mv);
         let after = Group::of(site, self.next)?;
         println!(rt; "check {number}: {before}, {mv}, then {after}")?;
         Ok(())

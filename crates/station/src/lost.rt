@@ -13,9 +13,8 @@ fn lowest_legal(site: &Site, state: usize) -> Option<usize> {
 /// The lowest legal move in a state, and the spoiler's reply.
 fn spoil(board: Board<'_, Site>, state: usize) -> anyhow::Result<Check> {
     let mv = lowest_legal(board.traffic, state).ok_or_else(|| anyhow!("no move is legal"))?;
-    let Ok(Some(next)) = board.spoiler(state, mv) else {
-        return Err(anyhow!("the spoiler has no reply"));
-    };
+    let reply = board.spoiler(state, mv).ok().flatten();
+    let next = reply.ok_or_else(|| anyhow!("the spoiler has no reply"))?;
     Ok(Check { state, mv, next })
 }
 

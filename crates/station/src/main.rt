@@ -23,14 +23,16 @@ fn print_refused(rt: &HostRuntime, report: Report) -> anyhow::Result<()> {
 }
 
 /// Runs slots on a site from joint state 0 or, without a schedule, prints how the plants force a jam.
-fn run_site(rt: &HostRuntime, site: &Site, slots: u32, map: &mut [u16]) -> anyhow::Result<()> {
-    match synthesise(site, 0, map) {
-        Ok(armed) => slots::run_slots(rt, Board { traffic: site, map }, armed.keeper, slots),
-        Err(Refusal::NoSchedule { count, .. }) => lost::print_play(
-            rt,
-            Board { traffic: site, map },
-            count,
-        ),
+fn run_site(rt: &HostRuntime, site: &Site, slots: u32) -> anyhow::Result<()> {
+    let mut map = [0u16; 32768];
+    let answer = synthesise(site, 0, &mut map);
+    let board = Board {
+        traffic: site,
+        map: &map,
+    };
+    match answer {
+        Ok(armed) => slots::run_slots(rt, board, armed.keeper, slots),
+        Err(Refusal::NoSchedule { count, .. }) => lost::print_play(rt, board, count),
         Err(Refusal::Map(fault)) => print_refused(
             rt,
             Report {
@@ -42,24 +44,24 @@ fn run_site(rt: &HostRuntime, site: &Site, slots: u32, map: &mut [u16]) -> anyho
     }
 }
 
-fn run_file(rt: &HostRuntime, file: &[u8], slots: u32, map: &mut [u16]) -> anyhow::Result<()> {
+fn run_file(rt: &HostRuntime, file: &[u8], slots: u32) -> anyhow::Result<()> {
     match Site::read(rt.alloc(), file) {
-        Ok(site) => run_site(rt, &site, slots, map),
+        Ok(site) => run_site(rt, &site, slots),
         Err(LoadFault::File(fault)) => print_refused(rt, fault.into()),
         Err(LoadFault::Memory) => Err(anyhow!("there is no memory")),
     }
 }
 
-fn run_named(rt: &HostRuntime, name: &str, slots: u32, map: &mut [u16]) -> anyhow::Result<()> {
+fn run_named(rt: &HostRuntime, name: &str, slots: u32) -> anyhow::Result<()> {
     println!(rt; "# {name}")?;
     let file = fs::read(rt, name)?;
-    run_file(rt, &file, slots, map)
+    run_file(rt, &file, slots)
 }
 
-fn run_input(rt: &HostRuntime, slots: u32, map: &mut [u16]) -> anyhow::Result<()> {
+fn run_input(rt: &HostRuntime, slots: u32) -> anyhow::Result<()> {
     let mut file = Vec::new(rt.alloc());
     rt.stdin().read_to_end(&mut file)?;
-    run_file(rt, &file, slots, map)
+    run_file(rt, &file, slots)
 }
 
 /// How many slots to run: the first argument.
@@ -71,22 +73,17 @@ fn read_slots(argument: Option<String>) -> anyhow::Result<u32> {
         .map_err(|_| anyhow!("how many slots to run is a number"))
 }
 
-fn run_all(rt: &HostRuntime, map: &mut [u16]) -> anyhow::Result<()> {
+fn run(rt: &HostRuntime) -> anyhow::Result<()> {
     let mut arguments = env::args(rt)?.skip(1);
     let slots = read_slots(arguments.next())?;
     let Some(first) = arguments.next() else {
-        return run_input(rt, slots, map);
+        return run_input(rt, slots);
     };
-    run_named(rt, first.as_str(), slots, map)?;
+    run_named(rt, first.as_str(), slots)?;
     for name in arguments {
-        run_named(rt, name.as_str(), slots, map)?;
+        run_named(rt, name.as_str(), slots)?;
     }
     Ok(())
-}
-
-fn run(rt: &HostRuntime) -> anyhow::Result<()> {
-    let mut map = [0u16; 32768];
-    run_all(rt, &mut map)
 }
 
 fn main(rt: HostRuntime) -> anyhow::Result<()> {

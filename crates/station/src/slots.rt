@@ -9,8 +9,8 @@ use traffic::Traffic;
 
 /// What a course of slots came to so far.
 #[derive(Drop)]
-struct Course {
-    loops: usize,
+struct Course<'a> {
+    site: &'a Site,
     slots: u32,
     /// How often each loop sent.
     sends: [u32; 4],
@@ -27,10 +27,10 @@ struct Slot {
     check: Check,
 }
 
-impl Course {
-    fn new(site: &Site, loops: usize, start: usize) -> Course {
+impl<'a> Course<'a> {
+    fn new(site: &'a Site, start: usize) -> Course<'a> {
         Course {
-            loops,
+            site,
             slots: 0,
             sends: [0; 4],
             silence: 0,
@@ -51,22 +51,23 @@ impl Course {
         }
     }
 
-    fn note(&mut self, site: &Site, check: Check) {
+    fn note(&mut self, check: Check) {
         self.slots = self.slots.saturating_add(1);
-        match Move::of(check.mv) {
+        match Move::from(check.mv) {
             Move::Silence => self.note_silence(),
             Move::Send(place) => self.note_send(place),
         }
-        if is_jam(site, check.next) {
+        if is_jam(self.site, check.next) {
             self.met_jam = true;
         }
     }
 }
 
-impl fmt::Display for Course {
+impl fmt::Display for Course<'_> {
     fn fmt<W: fmt::Write>(&self, f: &mut fmt::Formatter<W>) -> fmt::Result {
+        let loops = self.site.size().map_or(0, |size| size.loops);
         writeln!(f, "slots: {}", self.slots)?;
-        for (place, sends) in (1..=self.loops).zip(&self.sends) {
+        for (place, sends) in (1..=loops).zip(&self.sends) {
             writeln!(f, "sends of loop {place}: {sends}")?;
         }
         writeln!(f, "longest silence: {}", self.longest_silence)?;
@@ -80,24 +81,21 @@ impl fmt::Display for Course {
 
 /// The plants' reply to a move: the spoiler's where it has one, and else the lowest next state.
 fn reply(board: Board<'_, Site>, state: usize, mv: usize) -> Option<usize> {
-    match board.spoiler(state, mv) {
-        Ok(Some(next)) => Some(next),
-        Ok(None) | Err(_) => board.traffic.next_from(state, mv, 0),
-    }
+    let spoiled = board.spoiler(state, mv).ok().flatten();
+    spoiled.or_else(|| board.traffic.next_from(state, mv, 0))
 }
 
 fn run_slot(keeper: Ready, board: Board<'_, Site>) -> anyhow::Result<Slot> {
     let state = keeper.state();
-    let Ok(Some(mv)) = keeper.pick(board) else {
-        return Err(anyhow!("the keeper has no pick"));
-    };
-    let Ok(waiting) = keeper.grant(board, mv) else {
-        return Err(anyhow!("the keeper's pick is not granted"));
-    };
+    let pick = keeper.pick(board).ok().flatten();
+    let mv = pick.ok_or_else(|| anyhow!("the keeper has no pick"))?;
+    let waiting = keeper
+        .grant(board, mv)
+        .map_err(|_| anyhow!("the keeper's pick is not granted"))?;
     let next = reply(board, state, mv).ok_or_else(|| anyhow!("the plants have no reply"))?;
-    let Ok(keeper) = waiting.report(board, next) else {
-        return Err(anyhow!("the plants' reply is not taken"));
-    };
+    let keeper = waiting
+        .report(board, next)
+        .map_err(|_| anyhow!("the plants' reply is not taken"))?;
     let check = Check { state, mv, next };
     Ok(Slot { keeper, check })
 }
@@ -109,17 +107,13 @@ pub fn run_slots(
     armed: Ready,
     slots: u32,
 ) -> anyhow::Result<()> {
-    let site = board.traffic;
-    let size = site
-        .size()
-        .ok_or_else(|| anyhow!("the site is over the limits"))?;
-    let mut course = Course::new(site, size.loops, armed.state());
+    let mut course = Course::new(board.traffic, armed.state());
     let mut keeper = armed;
     for number in 1..=slots {
         let slot = run_slot(keeper, board)?;
         keeper = slot.keeper;
-        slot.check.print(rt, site, number)?;
-        course.note(site, slot.check);
+        slot.check.print(rt, board.traffic, number)?;
+        course.note(slot.check);
     }
     println!(rt; "{course}")?;
     Ok(())

@@ -6,6 +6,7 @@ ghost use Rattle.verdict.specs.Verdicts.{verdict_of, Tells, sized, line};
 
 use loops::load_fault::LoadFault;
 use site::site::Site;
+use site::site::group::GroupFault;
 use site_read::fault::Report;
 use std::alloc::{AllocError, Global};
 use std::fmt;
@@ -37,14 +38,14 @@ impl Verdict {
         match states {
             Some(n) => Verdict::States(n),
             None => Verdict::Refused(Report {
-                number: 9,
+                number: GroupFault::OverLimits.number(),
                 place: 0,
                 at: 0,
             }),
         }
     }
 
-    // What the code makes of a file.
+    // What the code makes of a file. Apart from of, so that what it tells is proved over one exit.
     fn judge(heap: Global, file: &[u8]) -> Result<Verdict, AllocError>
         ensures { IfOk result (λ v. v ≡ verdict_of file.now) }
     {
