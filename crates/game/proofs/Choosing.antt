@@ -3,10 +3,9 @@ use Rattle.std.proofs.Common.{◌≡◌, ℕ, zero, suc, ◌+◌, ◌<◌, ◌�
 use Rattle.std.proofs.lemmas.Bool.{cases_Bool, cases_lt, cases_eq, both_ways, and_parts, and_from, or_cases, or_left, or_right, not-true, not_from_false, false_from_ne_true, ltb-true, lt-ltb, ltb-false, leb-true, le-leb, eqb-true, eq-eqb}
 use Rattle.traffic.specs.Searches.{every_below, least}
 use Rattle.traffic.specs.Meaning.{Meaning, Lawful}
-use Rattle.traffic.specs.declared.Size.{Size}
-use Rattle.traffic.specs.Answered.{within_limits, size_of}
+use Rattle.traffic.specs.Answered.{within_limits}
 use Rattle.traffic.specs.NextStates.{next_states_from, next_states}
-use Rattle.traffic.proofs.Asked.{within_parts, size_some, next_none}
+use Rattle.traffic.proofs.Asked.{within_parts, next_none}
 use Rattle.traffic.proofs.Following.{nothing_left, first_left}
 use Rattle.traffic.specs.Found.{Least, every_decides, least_some, least_none, least_is, least_is_none}
 use Rattle.game.specs.Game.{keeps_in, permitted_by}
@@ -208,10 +207,8 @@ module _ (M : Meaning) (marks : ℕ → ℕ) (s m : ℕ) where
       pub passing_at : (M.states ≤ 32768) × (t < M.states)
       passing_at = let f = next in ((within_parts M f.0).0, f.1.high)
 
-      pub passing_within : (n : ℕ) (z : Size) → size_of M ≡ Some z → z.states ≤ n → (t < n) × IfSome found (λ w. w < n)
-      passing_within n z told h =
-          let same = (size_some M z told).2 in
-          (omega (arith, passing_at.1), first_within n k.from found (omega arith) k.first)
+      pub passing_within : (n : ℕ) → M.states ≤ n → (t < n) × IfSome found (λ w. w < n)
+      passing_within n h = (omega (arith, passing_at.1), first_within n k.from found h k.first)
 
       after : (o : Option ℕ) → FoundFirst (t + 1) o → Passing left o
       after o f = record { from = t + 1; rest = next.2; first = f }

@@ -10,7 +10,7 @@ ghost use Rattle.game.specs.Maps.{turned_away, unless, Filled};
 ghost use Rattle.game.specs.Counsel.{ExactlySafe, LowestSafe, LeadsDown};
 
 use crate::map_fault::MapFault;
-use crate::marks::Marks;
+use crate::marks::{Bounded, Marks};
 use traffic::next_states::next_states;
 use traffic::{Size, Traffic};
 
@@ -19,6 +19,20 @@ use traffic::{Size, Traffic};
 pub struct Board<'a, T> {
     pub traffic: &'a T,
     pub map: &'a [u16],
+}
+
+/// The traffic's size, if a map of so many marks serves for a call about this state.
+pub fn admit<T: Traffic>(traffic: &T, marks: usize, state: usize) -> Result<Size, MapFault>
+    ensures { result ≡ unless (turned_away (T.meaning traffic.now) marks state) (sized (T.meaning traffic.now)) }
+{
+    let size = traffic.size().ok_or(MapFault::OverLimits)?;
+    if marks < size.states {
+        return Err(MapFault::ShortMap);
+    }
+    if state >= size.states {
+        return Err(MapFault::NoSuchState);
+    }
+    Ok(size)
 }
 
 // Whether a state comes before the one found so far, which has a lower number.
@@ -36,17 +50,17 @@ fn comes_first(map: &[u16], t: usize, found: Option<usize>) -> bool
 impl<T: Traffic> Marks<'_, '_, T> {
     // The lowest permitted move.
     fn lowest_permitted(&self, state: usize) -> Option<usize>
-        ensures { result ≡ pick_by (T.meaning self.now.traffic.now) (on self.now.map.now) state }
+        ensures { result ≡ pick_by (T.meaning self.now.bounded.traffic.now) (on self.now.map.now) state }
     {
-        (0..=self.size.loops).find(|mv| self.standing_next(None, state, *mv).is_some())
+        (0..=self.bounded.size.loops).find(|mv| self.standing_next(None, state, *mv).is_some())
     }
 
     // The next state with the smallest mark above 0, the lower number among equals.
     fn worst_next(&self, state: usize, mv: usize) -> Option<usize>
-        ensures { result ≡ spoiler_by (T.meaning self.now.traffic.now) (on self.now.map.now) state mv }
+        ensures { result ≡ spoiler_by (T.meaning self.now.bounded.traffic.now) (on self.now.map.now) state mv }
     {
         let mut worst = None;
-        for t in next_states(self.traffic, state, mv) {
+        for t in next_states(self.bounded.traffic, state, mv) {
             if self.map[t] > 0 && comes_first(self.map, t, worst) {
                 worst = Some(t);
             }
@@ -58,18 +72,14 @@ impl<T: Traffic> Marks<'_, '_, T> {
 impl<'a, T: Traffic> Board<'a, T> {
     // The marks for a call about this state, if the map serves for it.
     fn marks(self, state: usize) -> Result<Marks<'a, 'a, T>, MapFault>
-        ensures { MatchResult result (λ m. (turned_away (T.meaning self.entry.traffic.now) (length self.entry.map.now) state ≡ None) × (m.traffic ≡ self.entry.traffic) × (m.map ≡ self.entry.map)) (λ f. turned_away (T.meaning self.entry.traffic.now) (length self.entry.map.now) state ≡ Some f) }
+        ensures { MatchResult result (λ m. (turned_away (T.meaning self.entry.traffic.now) (length self.entry.map.now) state ≡ None) × (m.bounded.traffic ≡ self.entry.traffic) × (m.map ≡ self.entry.map)) (λ f. turned_away (T.meaning self.entry.traffic.now) (length self.entry.map.now) state ≡ Some f) }
     {
-        let size = self.traffic.size().ok_or(MapFault::OverLimits)?;
-        if self.map.len() < size.states {
-            return Err(MapFault::ShortMap);
-        }
-        if state >= size.states {
-            return Err(MapFault::NoSuchState);
-        }
+        let size = admit(self.traffic, self.map.len(), state)?;
         Ok(Marks {
-            traffic: self.traffic,
-            size,
+            bounded: Bounded {
+                traffic: self.traffic,
+                size,
+            },
             map: self.map,
         })
     }
@@ -78,7 +88,7 @@ impl<'a, T: Traffic> Board<'a, T> {
     pub fn admit(self, state: usize) -> Result<Size, MapFault>
         ensures { result ≡ unless (turned_away (T.meaning self.entry.traffic.now) (length self.entry.map.now) state) (sized (T.meaning self.entry.traffic.now)) }
     {
-        Ok(self.marks(state)?.size)
+        admit(self.traffic, self.map.len(), state)
     }
 
     /// Whether a move is permitted in a state: it is legal and all its next states have mark 0.

@@ -1,5 +1,4 @@
-use Rattle.std.proofs.Common.{sym, rules}
-use Rattle.traffic.proofs.Asked.{size_some}
+use Rattle.std.proofs.Common.{sym, arith, rules}
 use Rattle.game.proofs.Choosing.{passing_at, passing_within, passing_passed, passing_kept, passing_replaced, passing_over}
 use Rattle.game.proofs.marks.Marks.worst_next.Goals as goal
 use Rattle.game.proofs.marks.Marks.worst_next.Goals.{else-self-t-gt0-via-then-self-t-gt0+else-comes_first, else-self-t-gt0-via-else-self-t-gt0}
@@ -10,11 +9,11 @@ offset_bounds-self-t g c =
     search rules
 
 pub bounds-self-t : goal.bounds-self-t
-bounds-self-t g c = (passing_within _ _ _ _ _ _ _ _ _ c.loop-t.invariant c.in-Some.ensures.steps _ _ c.args.self.now.sized c.args.self.now.room).0
+bounds-self-t g c = (passing_within _ _ _ _ _ _ _ _ _ c.loop-t.invariant c.in-Some.ensures.steps _ (omega arith)).0
 
 pub comes_first-requires : goal.comes_first-requires
 comes_first-requires g c =
-    let f = passing_within _ _ _ _ _ _ _ _ _ c.loop-t.invariant c.in-Some.ensures.steps _ _ c.args.self.now.sized c.args.self.now.room in
+    let f = passing_within _ _ _ _ _ _ _ _ _ c.loop-t.invariant c.in-Some.ensures.steps _ (omega arith) in
     record { inside = f.0; found = f.1 }
 
 pub loop-t-preserved-then-comes_first : goal.loop-t-preserved-then-comes_first
@@ -31,4 +30,4 @@ loop-t-preserved g c =
     ]
 
 pub returns : goal.returns
-returns g c = passing_over _ _ _ _ _ _ _ (size_some _ _ c.args.self.now.sized).0 c.loop-t.invariant c.in-None.ensures.steps.0
+returns g c = passing_over _ _ _ _ _ _ _ c.args.self.now.bounded.limits c.loop-t.invariant c.in-None.ensures.steps.0
