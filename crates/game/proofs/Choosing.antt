@@ -1,5 +1,5 @@
 -- What the pick and the spoiler find, by any marking.
-use Rattle.std.proofs.Common.{◌≡◌, ℕ, zero, suc, ◌+◌, ◌<◌, ◌≤◌, Bool, true, false, not, ◌&&◌, ◌||◌, ltb, ◌⊎◌, List, [], ◌∷◌, IfSome, Some, None, Option, sym, refl, ap, ◌∙◌, subst, ap₂, inl, inr, add-one, arith, MatchOption}
+use Rattle.std.proofs.Common.{◌≡◌, ℕ, zero, suc, ◌+◌, ◌<◌, ◌≤◌, Bool, true, false, not, ◌&&◌, ◌||◌, ltb, ◌⊎◌, List, [], ◌∷◌, IfSome, Some, None, Option, sym, refl, ap, ◌∙◌, subst, ap₂, inl, inr, add-one, arith, IsTrue, MatchOption}
 use Rattle.std.proofs.lemmas.Bool.{cases_Bool, cases_lt, cases_eq, both_ways, and_parts, and_from, or_cases, or_left, or_right, not-true, not_from_false, false_from_ne_true, ltb-true, lt-ltb, ltb-false, leb-true, le-leb, eqb-true, eq-eqb}
 use Rattle.traffic.specs.Searches.{every_below, least}
 use Rattle.traffic.specs.Meaning.{Meaning, Lawful}
@@ -43,6 +43,11 @@ module _ (marks : ℕ → ℕ) where
         | inl l ↦ or_left _ _ (lt-ltb _ _ l)
         | inr l ↦ or_right _ _ (and_from _ _ (eq-eqb _ _ l.0) (le-leb _ _ l.1))
       ]
+
+-- an answer whether t is ahead, given for the state that was found
+pub ahead_told : {P : ℕ → Type 0} (marks : ℕ → ℕ) (t : ℕ) (found : Option ℕ) (r : Bool) → MatchOption found (IsTrue r) P → ((w : ℕ) → P w → r ≡ ltb (marks t) (marks w)) → r ≡ ahead marks t found
+ahead_told marks t None r h each = h
+ahead_told marks t (Some w) r h each = each w h
 
 module _ (M : Meaning) (marks : ℕ → ℕ) (s m : ℕ) where
   pub threat_is : (t : ℕ) → M.leads s m t ≡ true → 0 < marks t → threat M marks s m t ≡ true
@@ -207,8 +212,8 @@ module _ (M : Meaning) (marks : ℕ → ℕ) (s m : ℕ) where
       pub passing_at : (M.states ≤ 32768) × (t < M.states)
       passing_at = let f = next in ((within_parts M f.0).0, f.1.high)
 
-      pub passing_within : (n : ℕ) → M.states ≤ n → (t < n) × IfSome found (λ w. w < n)
-      passing_within n h = (omega (arith, passing_at.1), first_within n k.from found h k.first)
+      pub passing_found : (w : ℕ) → found ≡ Some w → w < M.states
+      passing_found w y = subst (λ o. IfSome o (λ v. v < M.states)) y (first_within M.states k.from found (omega arith) k.first)
 
       after : (o : Option ℕ) → FoundFirst (t + 1) o → Passing left o
       after o f = record { from = t + 1; rest = next.2; first = f }
