@@ -47,13 +47,10 @@ impl<T: Traffic> Marks<'_, '_, T> {
     fn worst_next(&self, state: usize, mv: usize) -> Option<usize>
         ensures { result ≡ spoiler_by (T.meaning self.now.bounded.traffic.now) (on self.now.map.now) state mv }
     {
-        let mut worst = None;
-        for t in next_states(self.bounded.traffic, state, mv) {
-            if self.map[t] > 0 && worst.is_none_or(|w| self.map[t] < self.map[w]) {
-                worst = Some(t);
-            }
-        }
-        worst
+        let map = self.map;
+        next_states(self.bounded.traffic, state, mv)
+            .filter(|t| map[*t] > 0)
+            .min_by_key(|t| map[*t])
     }
 }
 
