@@ -3,7 +3,9 @@ use Rattle.std.proofs.Common.{◌≡◌, ℕ, ◌<◌, ◌≤◌, true, false, S
 use Rattle.std.specs.Option.{ok_or}
 use Rattle.std.proofs.lemmas.Bool.{cases_Bool, cases_lt, cond-true, cond-false, lt-ltb, le-ltb, lt-leb, le-leb}
 use Rattle.traffic.specs.Meaning.{Meaning}
-use Rattle.traffic.specs.Answered.{within_limits}
+use Rattle.traffic.specs.declared.Size.{Size}
+use Rattle.traffic.specs.Answered.{within_limits, sized}
+use Rattle.traffic.proofs.Asked.{within_parts}
 use Rattle.game.specs.declared.map_fault.MapFault.{MapFault}
 use Rattle.game.specs.declared.map_fault.MapFault.TheVariants.{OverLimits, ShortMap, NoSuchState}
 use Rattle.game.specs.Maps.{turned_away, unless}
@@ -66,3 +68,28 @@ module _ (M : Meaning) (length s : ℕ) where
     where
       refused : (f : MapFault) → turned_away M length s ≡ Some f → ⊥
       refused f d = let z : ◌≡◌ {A = ℕ} 0 1 = cc in omega arith
+
+  -- a call that is answered with the size z is admitted, and z is the traffic's
+  pub record SizeTold (z : Size) : Type 0 where
+    pub none : turned_away M length s ≡ None
+    pub limits : within_limits M ≡ true
+    pub few : M.states ≤ 32768
+    pub states : z.states ≡ M.states
+    pub loops : z.loops ≡ M.loops
+    pub room : z.states ≤ length
+    pub inside : s < z.states
+
+  pub size_told : (z : Size) → Ok z ≡ unless (turned_away M length s) (sized M) → SizeTold z
+  size_told z e =
+      let a = answered _ _ _ e in
+      let h = admitted a.0 in
+      rw a.1
+      (record {
+        none = a.0;
+        limits = h.limits;
+        few = (within_parts M h.limits).0;
+        states = refl;
+        loops = refl;
+        room = h.room;
+        inside = h.inside;
+      })

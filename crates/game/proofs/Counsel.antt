@@ -6,7 +6,7 @@ use Rattle.game.specs.declared.map_fault.MapFault.{MapFault}
 use Rattle.game.specs.Game.{mark, permitted_by, permitted}
 use Rattle.game.specs.Choice.{pick_by, spoiler_by}
 use Rattle.game.specs.Standing.{on}
-use Rattle.game.specs.Maps.{turned_away, unless, Filled}
+use Rattle.game.specs.Maps.{unless_turned_away, Filled}
 use Rattle.game.specs.Plays.{Safe}
 use Rattle.game.specs.Counsel.{ExactlySafe, LowestSafe, LeadsDown}
 use Rattle.game.proofs.Kept.{keeps_same, legal_low}
@@ -46,13 +46,13 @@ module _ (M : Meaning) (law : Lawful M) (map : List ℕ) (filled : Filled M map)
   safe_low : (s m : ℕ) → s < M.states → Safe M s m → m ≤ M.loops
   safe_low s m l w = legal_low M law s m (permitted_legal M s m (((marks_tell M law).permit s m l).1 w))
 
-  pub exactly_safe : (s m : ℕ) (r : Result Bool MapFault) → r ≡ unless (turned_away M (length map) s) (permitted_by M (on map) s m) → ExactlySafe M s m r
+  pub exactly_safe : (s m : ℕ) (r : Result Bool MapFault) → r ≡ unless_turned_away M map s (permitted_by M (on map) s m) → ExactlySafe M s m r
   exactly_safe s m r a told e =
       let p = answered _ _ _ (sym e ∙ a) in
       let i = permitted_is_safe s m (admitted M (length map) s p.0).inside in
       (λ q. i.0 (sym p.1 ∙ q), λ w. p.1 ∙ i.1 w)
 
-  pub lowest_safe : (s : ℕ) (r : Result (Option ℕ) MapFault) → r ≡ unless (turned_away M (length map) s) (pick_by M (on map) s) → LowestSafe M s r
+  pub lowest_safe : (s : ℕ) (r : Result (Option ℕ) MapFault) → r ≡ unless_turned_away M map s (pick_by M (on map) s) → LowestSafe M s r
   lowest_safe s r a = (
     λ m e.
         let p = answered _ _ _ (sym e ∙ a) in
@@ -65,7 +65,7 @@ module _ (M : Meaning) (law : Lawful M) (map : List ℕ) (filled : Filled M map)
         both_ways _ (pick_absent M (on map) s (sym p.1) m (safe_low s m l w)) ((permitted_is_safe s m l).1 w),
   )
 
-  pub leads_down : (s m : ℕ) (r : Result (Option ℕ) MapFault) → r ≡ unless (turned_away M (length map) s) (spoiler_by M (on map) s m) → LeadsDown M s m r
+  pub leads_down : (s m : ℕ) (r : Result (Option ℕ) MapFault) → r ≡ unless_turned_away M map s (spoiler_by M (on map) s m) → LeadsDown M s m r
   leads_down s m r a answer e h ok =
       let p = answered _ _ _ (sym e ∙ a) in
       let l = (admitted M (length map) s p.0).inside in

@@ -14,6 +14,7 @@ pub enum MapFault {
 
 impl MapFault {
     /// The refusal's number.
+    // A method: u8::from(fault) would not say that it is the refusal's number.
     pub fn number(self) -> u8
         ensures { result ≡ number self }
     {

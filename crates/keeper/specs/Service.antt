@@ -1,11 +1,11 @@
 -- What one call does to a keeper and answers, and what a list of calls does.
-use Rattle.std.specs.Prelude.{ℕ, List, [], ◌∷◌, length, Ok, Err, Result}
+use Rattle.std.specs.Prelude.{ℕ, List, [], ◌∷◌, Ok, Err, Result}
 use Rattle.traffic.specs.Meaning.{Meaning}
 use Rattle.game.specs.declared.map_fault.MapFault.{MapFault}
 use Rattle.game.specs.Game.{permitted_by}
 use Rattle.game.specs.Choice.{pick_by, spoiler_by}
 use Rattle.game.specs.Standing.{on}
-use Rattle.game.specs.Maps.{turned_away, unless}
+use Rattle.game.specs.Maps.{unless_turned_away}
 use Rattle.keeper.specs.declared.slot.Ready.{Ready}
 use Rattle.keeper.specs.declared.slot.Waiting.{Waiting}
 use Rattle.keeper.specs.declared.slot_fault.SlotFault.{SlotFault}
@@ -33,13 +33,13 @@ after_report (Err e) = (AtWaiting e.1, Refused e.0)
 
 module _ (M : Meaning) (map : List ℕ) where
   abbrev pub permits_answer : ℕ → ℕ → Answer
-  permits_answer s m = said (unless (turned_away M (length map) s) (Permitted (permitted_by M (on map) s m)))
+  permits_answer s m = said (unless_turned_away M map s (Permitted (permitted_by M (on map) s m)))
 
   abbrev pub pick_answer : ℕ → Answer
-  pick_answer s = said (unless (turned_away M (length map) s) (Picked (pick_by M (on map) s)))
+  pick_answer s = said (unless_turned_away M map s (Picked (pick_by M (on map) s)))
 
   abbrev pub spoiler_answer : ℕ → ℕ → Answer
-  spoiler_answer s m = said (unless (turned_away M (length map) s) (Spoiled (spoiler_by M (on map) s m)))
+  spoiler_answer s m = said (unless_turned_away M map s (Spoiled (spoiler_by M (on map) s m)))
 
   -- a call out of turn is answered so, and changes nothing
   abbrev pub stepped : Keeper → Call → Keeper × Answer
