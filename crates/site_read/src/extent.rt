@@ -24,14 +24,10 @@ fn skip_many<'a, F: Fn(&'a [u8]) -> Result<&'a [u8], Fault>>(
 }
 
 impl RecordReader {
-    // Reads what loading reads again and keeps nothing, so that every fault is found before anything is allocated.
     pub(crate) fn skip_gaps<'a>(self, rest: &'a [u8]) -> Result<&'a [u8], Fault>
         ensures { seen_rest result ≡ rest_of (gaps self.place self.size rest.now) }
     {
-        let (gap, rest) = self.ranged(rest, 1, 64)?;
-        let (_, rest) = self.ranged(rest, gap, 64)?;
-        let (hold, rest) = self.ranged(rest, 1, 16)?;
-        let (_, rest) = self.ranged(rest, hold, 16)?;
+        let (_, rest) = self.terms(rest)?;
         Ok(rest)
     }
 
@@ -64,9 +60,8 @@ impl RegionReader {
     fn skip_row<'a>(self, rest: &'a [u8]) -> Result<&'a [u8], Fault>
         ensures { seen_rest result ≡ rest_of (row self.record.place self.record.size self.count rest.now) }
     {
-        let (earliest, rest) = self.record.ranged(rest, 1, 64)?;
-        let (deadline, rest) = self.record.ranged(rest, earliest, 64)?;
-        self.skip_sets(rest, deadline + 1 - earliest)
+        let (span, rest) = self.record.span(rest)?;
+        self.skip_sets(rest, span.deadline + 1 - span.earliest)
     }
 
     fn skip_rows<'a>(self, rest: &'a [u8]) -> Result<&'a [u8], Fault>
