@@ -6,6 +6,7 @@ ghost use Rattle.site_read.specs.Fields.{target_set, row, regions, gaps};
 
 use crate::fault::Fault;
 use crate::field::{RecordReader, RegionReader};
+use crate::limits::Span;
 
 /// Skips `n` parts of a record, one after another.
 fn skip_many<'a, F: Fn(&'a [u8]) -> Result<&'a [u8], Fault>>(
@@ -60,8 +61,8 @@ impl RegionReader {
     fn skip_row<'a>(self, rest: &'a [u8]) -> Result<&'a [u8], Fault>
         ensures { seen_rest result ≡ rest_of (row self.record.place self.record.size self.count rest.now) }
     {
-        let (span, rest) = self.record.span(rest)?;
-        self.skip_sets(rest, span.deadline + 1 - span.earliest)
+        let (Span { earliest, deadline }, rest) = self.record.span(rest)?;
+        self.skip_sets(rest, deadline + 1 - earliest)
     }
 
     fn skip_rows<'a>(self, rest: &'a [u8]) -> Result<&'a [u8], Fault>
