@@ -4,6 +4,7 @@ use Rattle.std.specs.Borrow.{Bor}
 use Rattle.site_read.specs.declared.fault.Fault.{Fault}
 use Rattle.site_read.specs.Parse.{Parsed}
 use Rattle.site_read.specs.Tables.{Row, Gaps}
+use Rattle.site_read.specs.Records.{gaps_in}
 use Rattle.loops.specs.declared.load_fault.LoadFault.{LoadFault}
 use Rattle.loops.specs.declared.load_fault.LoadFault.TheVariants.{File, Memory}
 use Rattle.loops.specs.declared.contract_loop.ContractLoop.{ContractLoop}
@@ -24,8 +25,7 @@ Holds f s (Err Memory) = Unit {0}
 
 -- the tables that the code's loops stand for
 abbrev pub gaps_of : ContractLoop → Gaps
-gaps_of x =
-    record { least_gap = x.terms.least_gap; greatest_gap = x.terms.greatest_gap; least_hold = x.terms.least_hold; greatest_hold = x.terms.greatest_hold }
+gaps_of x = gaps_in x.terms
 
 abbrev pub table_of : RegionLoop → List Row
 table_of x = rows_of (vec_items x.regions)

@@ -1,14 +1,7 @@
 //! A contract loop: how long it waits between messages, and how long a message holds the channel.
 ghost use Rattle.std.specs.Prelude.{◌≤◌};
 
-/// The numbers of a contract, in checks.
-#[derive(Clone, Copy, PartialEq, Eq, Debug)]
-pub struct Terms {
-    pub least_gap: u8,
-    pub greatest_gap: u8,
-    pub least_hold: u8,
-    pub greatest_hold: u8,
-}
+pub use site_read::limits::Terms;
 
 #[derive(Clone, Copy)]
 pub struct ContractLoop {

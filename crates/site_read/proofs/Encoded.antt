@@ -4,10 +4,10 @@ use Rattle.std.specs.List.{flat_map}
 use Rattle.std.proofs.lemmas.Bool.{and_parts, ltb-true, eqb-true}
 use Rattle.site_read.specs.declared.fault.Fault.TheVariants.{Kind}
 use Rattle.site_read.specs.Parse.{Parsed, then, many}
-use Rattle.site_read.specs.Tables.{Row, Gaps, Table, by_regions, by_contract, every, lawful_set}
-use Rattle.site_read.specs.Fields.{ranged, target_set, row, regions, gaps, table}
-use Rattle.site_read.specs.Format.{word, encode_row, encode_gaps, encode, Bytes}
-use Rattle.site_read.proofs.Sound.{never, same_ok, then_ok, cond_ok, ranged_ok, many_ok}
+use Rattle.site_read.specs.Tables.{Row, Table, by_regions, by_contract, every, lawful_set}
+use Rattle.site_read.specs.Fields.{ranged, target_set, span, row, regions, gaps, table}
+use Rattle.site_read.specs.Format.{word, encode_row, encode, Bytes}
+use Rattle.site_read.proofs.Sound.{never, same_ok, then_ok, cond_ok, in_range, span_read, gaps_read, many_ok}
 
 -- what is read is the front of the bytes, and what is left are bytes
 abbrev Exact : {X : Type 0} → (X → List ℕ) → List ℕ → X × List ℕ → Type 0
@@ -31,12 +31,6 @@ many_exact p enc each (suc n) bs h t q =
     (x.0 ∙ ap (λ (l : List ℕ). enc a.0.0 ++ l) ih.0 ∙ sym (append_assoc (enc a.0.0) (flat_map enc b.0.0) b.0.1), ih.1)
 
 module _ (place size : ℕ) where
-  -- one number of a record
-  one : (low high : ℕ) (bs : List ℕ) → Bytes bs → (x : ℕ × List ℕ) → ranged place size low high bs ≡ Ok x → (bs ≡ x.0 ∷ x.1) × Bytes x.1
-  one low high bs h x q =
-      let e = (ranged_ok place size low high bs x q).1 in
-      (e, rest_bytes x.0 x.1 (rw e at h))
-
   set_exact : (count : ℕ) (bs : List ℕ) → Bytes bs → (x : ℕ × List ℕ) → target_set place size count bs ≡ Ok x → Exact word bs x
   set_exact count [] h x q = never _ x q
   set_exact count (a ∷ []) h x q = never _ x q
@@ -50,40 +44,25 @@ module _ (place size : ℕ) where
       let db : (a * 256 + b) % 256 ≡ b = omega arith in
       rw (← c.1) (rw (da, db) refl, hb.1)
 
-  gaps_exact : (bs : List ℕ) → Bytes bs → (x : Gaps × List ℕ) → gaps place size bs ≡ Ok x → Exact encode_gaps bs x
-  gaps_exact bs h x q =
-      let a = then_ok (ranged place size 1 64 bs) _ x q in
-      let a' = one 1 64 bs h a.0 a.1 in
-      let b = then_ok (ranged place size a.0.0 64 a.0.1) _ x a.2 in
-      let b' = one a.0.0 64 a.0.1 a'.1 b.0 b.1 in
-      let c = then_ok (ranged place size 1 16 b.0.1) _ x b.2 in
-      let c' = one 1 16 b.0.1 b'.1 c.0 c.1 in
-      let d = then_ok (ranged place size c.0.0 16 c.0.1) _ x c.2 in
-      let d' = one c.0.0 16 c.0.1 c'.1 d.0 d.1 in
-      let g : Gaps = record { least_gap = a.0.0; greatest_gap = b.0.0; least_hold = c.0.0; greatest_hold = d.0.0 } in
-      rw (← same_ok (g, d.0.1) x d.2)
-      (a'.0 ∙ ap (λ (l : List ℕ). a.0.0 ∷ l) (b'.0 ∙ ap (λ (l : List ℕ). b.0.0 ∷ l) (c'.0 ∙ ap (λ (l : List ℕ). c.0.0 ∷ l) d'.0)), d'.1)
-
   row_exact : (count : ℕ) (bs : List ℕ) → Bytes bs → (x : Row × List ℕ) → row place size count bs ≡ Ok x → Exact encode_row bs x
   row_exact count bs h x q =
-      let a = then_ok (ranged place size 1 64 bs) _ x q in
-      let a' = one 1 64 bs h a.0 a.1 in
-      let b = then_ok (ranged place size a.0.0 64 a.0.1) _ x a.2 in
-      let b' = one a.0.0 64 a.0.1 a'.1 b.0 b.1 in
-      let c = then_ok (many (target_set place size count) (b.0.0 + 1 - a.0.0) b.0.1) _ x b.2 in
-      let t = many_exact (target_set place size count) word (set_exact count) (b.0.0 + 1 - a.0.0) b.0.1 b'.1 c.0 c.1 in
-      let r : Row = record { earliest = a.0.0; deadline = b.0.0; targets = c.0.0 } in
+      let a = then_ok (span place size bs) _ x q in
+      let e = (span_read place size bs a.0 a.1).exact in
+      let n : ℕ = a.0.0.deadline + 1 - a.0.0.earliest in
+      let c = then_ok (many (target_set place size count) n a.0.1) _ x a.2 in
+      let t = many_exact (target_set place size count) word (set_exact count) n a.0.1 (bytes_after (a.0.0.earliest ∷ a.0.0.deadline ∷ []) a.0.1 (rw e at h)) c.0 c.1 in
+      let r : Row = record { earliest = a.0.0.earliest; deadline = a.0.0.deadline; targets = c.0.0 } in
       rw (← same_ok (r, c.0.1) x c.2)
-      (a'.0 ∙ ap (λ (l : List ℕ). a.0.0 ∷ l) (b'.0 ∙ ap (λ (l : List ℕ). b.0.0 ∷ l) t.0), t.1)
+      (e ∙ ap (λ (l : List ℕ). r.earliest ∷ r.deadline ∷ l) t.0, t.1)
 
 module _ (place size : ℕ) where
   regions_exact : (bs : List ℕ) → Bytes bs → (x : List Row × List ℕ) → regions place size bs ≡ Ok x → bs ≡ length x.0 ∷ (flat_map encode_row x.0 ++ x.1)
   regions_exact bs h x q =
       let n = then_ok (ranged place size 1 16 bs) _ x q in
-      let n' = one place size 1 16 bs h n.0 n.1 in
+      let e = (in_range place size 1 16 bs n.0 n.1).exact in
       let k = many_ok (row place size n.0.0) (λ _. true) (λ _ _ _. refl) n.0.0 n.0.1 x n.2 in
-      let t = many_exact (row place size n.0.0) encode_row (row_exact place size n.0.0) n.0.0 n.0.1 n'.1 x n.2 in
-      n'.0 ∙ ap₂ (λ (m : ℕ) (l : List ℕ). m ∷ l) (sym k.0) t.0
+      let t = many_exact (row place size n.0.0) encode_row (row_exact place size n.0.0) n.0.0 n.0.1 (bytes_after (n.0.0 ∷ []) n.0.1 (rw e at h)) x n.2 in
+      e ∙ ap₂ (λ (m : ℕ) (l : List ℕ). m ∷ l) (sym k.0) t.0
 
 pub encodes : (place size : ℕ) (bs : List ℕ) → Bytes bs → (x : Table × List ℕ) → table place size bs ≡ Ok x → bs ≡ encode x.0 ++ x.1
 encodes place size [] h x q = never _ x q
@@ -96,6 +75,6 @@ encodes place size (k ∷ bs) h x q = go (eqb k 1) (eqb k 2) refl refl q
         rw (← same_ok (by_regions a.0.0, a.0.1) x a.2) (ap₂ (λ (m : ℕ) (l : List ℕ). m ∷ l) (eqb-true k 1 e₁) i)
     go false true e₁ e₂ r =
         let a = then_ok (gaps place size bs) (λ t. Ok (by_contract t.0, t.1)) x r in
-        let i = gaps_exact place size bs (rest_bytes k bs h) a.0 a.1 in
-        rw (← same_ok (by_contract a.0.0, a.0.1) x a.2) (ap₂ (λ (m : ℕ) (l : List ℕ). m ∷ l) (eqb-true k 2 e₂) i.0)
+        let i = (gaps_read place size bs a.0 a.1).exact in
+        rw (← same_ok (by_contract a.0.0, a.0.1) x a.2) (ap₂ (λ (m : ℕ) (l : List ℕ). m ∷ l) (eqb-true k 2 e₂) i)
     go false false e₁ e₂ r = never _ x r

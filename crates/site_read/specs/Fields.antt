@@ -4,6 +4,7 @@
 use Rattle.std.specs.Prelude.{ℕ, ◌+◌, ◌-◌, ◌*◌, cond, ◌&&◌, List, [], ◌∷◌, length, Ok, Err, ◌==◌, nat_le}
 use Rattle.site_read.specs.declared.fault.Fault.TheVariants.{Truncated, Kind, Number, Set}
 use Rattle.site_read.specs.declared.kind.Kind.TheVariants.{Region, Contract}
+use Rattle.site_read.specs.declared.limits.Span.{Span}
 use Rattle.site_read.specs.Kinds.{kind_byte}
 use Rattle.site_read.specs.Parse.{Parsed, then, many}
 use Rattle.site_read.specs.Tables.{Row, Gaps, Table, by_regions, by_contract, lawful_set}
@@ -23,12 +24,18 @@ module _ (place size : ℕ) where
   target_set count (h ∷ l ∷ bs) =
       cond (lawful_set count (h * 256 + l)) (Ok (h * 256 + l, bs)) (Err (Set place (size - length (h ∷ l ∷ bs))))
 
-  abbrev pub row : ℕ → List ℕ → Parsed Row
-  row count bs =
+  -- the checks at which a region's send may come
+  abbrev pub span : List ℕ → Parsed Span
+  span bs =
       then (ranged 1 64 bs) λ e.
       then (ranged e.0 64 e.1) λ d.
-      then (many (target_set count) (d.0 + 1 - e.0) d.1) λ t.
-      Ok (record { earliest = e.0; deadline = d.0; targets = t.0 }, t.1)
+      Ok (record { earliest = e.0; deadline = d.0 }, d.1)
+
+  abbrev pub row : ℕ → List ℕ → Parsed Row
+  row count bs =
+      then (span bs) λ s.
+      then (many (target_set count) (s.0.deadline + 1 - s.0.earliest) s.1) λ t.
+      Ok (record { earliest = s.0.earliest; deadline = s.0.deadline; targets = t.0 }, t.1)
 
   abbrev pub regions : List ℕ → Parsed (List Row)
   regions bs = then (ranged 1 16 bs) λ n. many (row n.0) n.0 n.1

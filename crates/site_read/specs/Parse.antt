@@ -17,6 +17,11 @@ abbrev pub seen : {X : Type 0} → Result (X × Bor (List ℕ)) Fault → Parsed
 seen (Ok p) = Ok (p.0, p.1.now)
 seen (Err e) = Err e
 
+-- the same where what is read stands for something else
+abbrev pub seen_as : {Y X : Type 0} → (Y → X) → Result (Y × Bor (List ℕ)) Fault → Parsed X
+seen_as f (Ok p) = Ok (f p.0, p.1.now)
+seen_as f (Err e) = Err e
+
 -- the same of a result that lends only what is left
 abbrev pub seen_rest : Result (Bor (List ℕ)) Fault → Result (List ℕ) Fault
 seen_rest (Ok r) = Ok r.now

@@ -4,12 +4,13 @@ use Rattle.std.specs.Borrow.{Bor}
 use Rattle.std.specs.Option.{option_map}
 use Rattle.site_read.specs.declared.fault.Fault.{Fault}
 use Rattle.site_read.specs.declared.fault.Fault.TheVariants.{Trailing}
+use Rattle.site_read.specs.declared.limits.Terms.{Terms}
 use Rattle.site_read.specs.declared.records.Record.{Record}
 use Rattle.site_read.specs.declared.records.Record.TheVariants.{Region, Contract}
 use Rattle.site_read.specs.declared.records.Records.{Records}
 use Rattle.site_read.specs.Header.{header}
-use Rattle.site_read.specs.Parse.{Parsed, then}
-use Rattle.site_read.specs.Tables.{Table, by_regions, by_contract}
+use Rattle.site_read.specs.Parse.{Parsed, then, seen_as}
+use Rattle.site_read.specs.Tables.{Gaps, Table, by_regions, by_contract}
 use Rattle.site_read.specs.Fields.{table}
 
 -- a record's bytes and the offset of the first
@@ -52,18 +53,21 @@ pieces file =
     cond (nat_le 1 (length d.1)) (Err (Trailing (length file - length d.1)))
     (Ok (record { first = a.0; second = b.0; third = c.0; fourth = d.0 }))
 
+-- the gaps and holds that the code's terms stand for
+abbrev pub gaps_in : Terms → Gaps
+gaps_in x =
+    record { least_gap = x.least_gap; greatest_gap = x.greatest_gap; least_hold = x.least_hold; greatest_hold = x.greatest_hold }
+
 -- what the code lends, with the bytes in place of the loan
 abbrev pub piece_of : Record → Piece
 piece_of (Region r) = region_piece r.bytes.now r.at
 piece_of (Contract r) = contract_piece r.bytes.now r.at
 
 abbrev pub seen_record : Result (Record × Bor (List ℕ)) Fault → Parsed Piece
-seen_record (Ok p) = Ok (piece_of p.0, p.1.now)
-seen_record (Err e) = Err e
+seen_record = seen_as piece_of
 
 abbrev pub seen_slot : Result (Option Record × Bor (List ℕ)) Fault → Parsed (Option Piece)
-seen_slot (Ok p) = Ok (option_map piece_of p.0, p.1.now)
-seen_slot (Err e) = Err e
+seen_slot = seen_as (option_map piece_of)
 
 abbrev pub pieces_of : Records → Pieces
 pieces_of r =

@@ -6,6 +6,7 @@ ghost use Rattle.site_read.specs.Fields.{target_set, row, regions, gaps};
 
 use crate::fault::Fault;
 use crate::field::{RecordReader, RegionReader};
+use crate::limits::Span;
 
 /// Skips `n` parts of a record, one after another.
 fn skip_many<'a, F: Fn(&'a [u8]) -> Result<&'a [u8], Fault>>(
@@ -24,14 +25,10 @@ fn skip_many<'a, F: Fn(&'a [u8]) -> Result<&'a [u8], Fault>>(
 }
 
 impl RecordReader {
-    // Reads what loading reads again and keeps nothing, so that every fault is found before anything is allocated.
     pub(crate) fn skip_gaps<'a>(self, rest: &'a [u8]) -> Result<&'a [u8], Fault>
         ensures { seen_rest result ≡ rest_of (gaps self.place self.size rest.now) }
     {
-        let (gap, rest) = self.ranged(rest, 1, 64)?;
-        let (_, rest) = self.ranged(rest, gap, 64)?;
-        let (hold, rest) = self.ranged(rest, 1, 16)?;
-        let (_, rest) = self.ranged(rest, hold, 16)?;
+        let (_, rest) = self.terms(rest)?;
         Ok(rest)
     }
 
@@ -64,8 +61,7 @@ impl RegionReader {
     fn skip_row<'a>(self, rest: &'a [u8]) -> Result<&'a [u8], Fault>
         ensures { seen_rest result ≡ rest_of (row self.record.place self.record.size self.count rest.now) }
     {
-        let (earliest, rest) = self.record.ranged(rest, 1, 64)?;
-        let (deadline, rest) = self.record.ranged(rest, earliest, 64)?;
+        let (Span { earliest, deadline }, rest) = self.record.span(rest)?;
         self.skip_sets(rest, deadline + 1 - earliest)
     }
 

@@ -1,5 +1,6 @@
 //! The fields of a record.
 ghost use Rattle.std.specs.Prelude.{◌≡◌, ◌-◌, ◌≤◌, length, IfOk};
+ghost use Rattle.site_read.specs.declared.fault.Fault.TheVariants.{Truncated};
 ghost use Rattle.site_read.specs.Parse.{seen};
 ghost use Rattle.site_read.specs.Tables.{lawful_set};
 ghost use Rattle.site_read.specs.Fields.{ranged as ranged_of, target_set};
@@ -29,21 +30,29 @@ impl RecordReader {
         self.size.saturating_sub(rest.len())
     }
 
+    /// The fault of a record whose next field the file doesn't have whole.
+    pub(crate) fn cut_short(self) -> Fault
+        ensures { result ≡ Truncated self.place self.size }
+    {
+        Fault::Truncated {
+            place: self.place,
+            at: self.size,
+        }
+    }
+
     /// A number from `low` to `high`, in one byte.
     pub fn ranged<'a>(self, rest: &'a [u8], low: u8, high: u8) -> Result<(u8, &'a [u8]), Fault>
         ensures parsed { seen result ≡ ranged_of self.place self.size low high rest.now }
         ensures bound { IfOk result (λ p. (low ≤ p.0) × (p.0 ≤ high)) }
     {
-        let place = self.place;
         let [b, after @ ..] = rest else {
-            return Err(Fault::Truncated {
-                place,
-                at: self.size,
-            });
+            return Err(self.cut_short());
         };
         if !(low..=high).contains(b) {
-            let at = self.offset(rest);
-            return Err(Fault::Number { place, at });
+            return Err(Fault::Number {
+                place: self.place,
+                at: self.offset(rest),
+            });
         }
         Ok((*b, after))
     }
@@ -61,17 +70,15 @@ impl RegionReader {
     pub fn target_set<'a>(self, rest: &'a [u8]) -> Result<(u16, &'a [u8]), Fault>
         ensures { seen result ≡ target_set self.record.place self.record.size self.count rest.now }
     {
-        let place = self.record.place;
         let [high, low, after @ ..] = rest else {
-            return Err(Fault::Truncated {
-                place,
-                at: self.record.size,
-            });
+            return Err(self.record.cut_short());
         };
         let set = u16::from_be_bytes([*high, *low]);
         if !is_set_below(set, self.count) {
-            let at = self.record.offset(rest);
-            return Err(Fault::Set { place, at });
+            return Err(Fault::Set {
+                place: self.record.place,
+                at: self.record.offset(rest),
+            });
         }
         Ok((set, after))
     }

@@ -9,4 +9,5 @@ pub mod fault;
 pub mod field;
 pub mod header;
 pub mod kind;
+pub mod limits;
 pub mod records;

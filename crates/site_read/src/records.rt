@@ -22,7 +22,8 @@ pub enum Record<'a> {
 }
 
 /// The records of a file, in file order.
-// Four names and no array: each is read behind the one before it, with the number of its own loop.
+// Four names and no array: the definition names four, each read behind the one before it, and a loop's invariant would
+// have to say that definition again.
 #[derive(Clone, Copy)]
 pub struct Records<'a> {
     pub first: Option<Record<'a>>,
@@ -49,23 +50,18 @@ impl RecordReader {
     {
         let place = self.place;
         let [kind, body @ ..] = rest else {
-            return Err(Fault::Truncated {
-                place,
-                at: self.size,
-            });
+            return Err(self.cut_short());
         };
-        match Kind::try_from(*kind) {
-            Ok(Kind::Region) => {
+        let at = self.offset(rest);
+        let kind = Kind::try_from(*kind).map_err(|_| Fault::Kind { place, at })?;
+        match kind {
+            Kind::Region => {
                 let after = self.skip_regions(body)?;
                 Ok((Record::Region(self.part(rest, after)), after))
             }
-            Ok(Kind::Contract) => {
+            Kind::Contract => {
                 let after = self.skip_gaps(body)?;
                 Ok((Record::Contract(self.part(rest, after)), after))
-            }
-            Err(_) => {
-                let at = self.offset(rest);
-                Err(Fault::Kind { place, at })
             }
         }
     }

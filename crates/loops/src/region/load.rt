@@ -8,6 +8,7 @@ ghost use Rattle.loops.specs.Loading.{Loads};
 use crate::load_fault::LoadFault;
 use crate::region::{Region, RegionSet};
 use site_read::field::RegionReader;
+use site_read::limits::Span;
 use std::alloc::Global;
 
 fn load_sets<'a>(
@@ -39,8 +40,7 @@ impl Region {
         ensures read { Loads row_of (row reader.record.place reader.record.size reader.count rest.now) result }
         ensures numbered { IfOk result (λ p. (p.0.first_state ≡ first_state) × (p.0.deadline ≤ 64)) }
     {
-        let (earliest, rest) = reader.record.ranged(rest, 1, 64)?;
-        let (deadline, rest) = reader.record.ranged(rest, earliest, 64)?;
+        let (Span { earliest, deadline }, rest) = reader.record.span(rest)?;
         let (targets, rest) = load_sets(heap, reader, rest, deadline + 1 - earliest)?;
         Ok((
             Region {
