@@ -1,6 +1,13 @@
 -- How long the parts of a file are, in sums.
-use Rattle.std.proofs.Common.{◌≡◌, ℕ, ◌+◌, ◌<◌, ◌≤◌, List, [], ◌∷◌, map, length, get_or, vec_items, Bor, sym, ap, ◌∙◌, arith}
+use Rattle.std.proofs.Common.{◌≡◌, ℕ, ◌+◌, ◌<◌, ◌≤◌, List, [], ◌∷◌, map, length, get_or, vec_items, Iter, Bor, sym, ap, ◌∙◌, arith}
+use denote.Param.Members.{Mut}
+use Rattle.std.specs.Fn.{Called}
+use Rattle.std.specs.Iterator.Adapters.{map_source, map_callee}
+use Rattle.std.specs.Slice.Iter.{iter_rest}
 use Rattle.std.specs.List.{flat_map, sum_by}
+use Rattle.std.proofs.iter.Yields.{fronts}
+use Rattle.std.proofs.lemmas.Iterator.{YieldsList, maps, YieldsList-from_slice, YieldsList-from_map}
+use Rattle.std.proofs.lemmas.Iterator.Consumers.{YieldsList-at}
 use Rattle.std.proofs.lemmas.List.{get_or_default}
 use Rattle.std.proofs.lemmas.List.Concat.{length-flat_map}
 use Rattle.std.proofs.lemmas.List.Folds.{fold-map, flat_map-map}
@@ -18,6 +25,10 @@ use Rattle.site.specs.declared.site.Site.{Site}
 use Rattle.site.specs.Loaded.{site_places, places_of}
 use Rattle.site_write.proofs.Pastes.{words_length}
 use Rattle.site_write.proofs.Saved.{site_length}
+
+-- what a closure computes of each item of a slice
+pub mapped : {A F R : Type 0} {f : F} {t : Iter A} {s : _} (g : Mut F (Bor A × Unit {0}) R) (h : A → R) (xs : List A) → map_source s ≡ t → iter_rest t ≡ xs → map_callee s ≡ f → ((x : Bor A) (r : R) (q : F) → Called g f (x, tt) r q → (q ≡ f) × (r ≡ h x.now)) → YieldsList (maps fronts g) (λ r. r) s (map h xs)
+mapped g h xs source rest callee computes = YieldsList-from_map g h (YieldsList-at source (YieldsList-from_slice xs rest)) callee computes
 
 sum_by_seen : (h : Place → ℕ) (ys : List (Bor Place)) → sum_by (λ (y : Bor Place). h y.now) ys ≡ sum_by h (map (λ (y : Bor Place). y.now) ys)
 sum_by_seen h ys = sym (fold-map (λ (a : ℕ) (p : Place). a + h p) (λ (y : Bor Place). y.now) 0 ys)

@@ -14,11 +14,13 @@ use traffic::pair::Pair;
 
 impl Site {
     // The site that the records of a file hold.
+    // Apart from read, so that its six exits speak of the records, and read brings the one result to the file.
     fn from_records(heap: Global, file: &[u8]) -> Result<Site, LoadFault>
         ensures { Holds site_places (file_tables file.now) result }
     {
         let size = file.len();
         let found = read_records(file)?;
+        // Four lines and no array: the definition names the four places, and a loop's invariant would have to say of each again.
         let first = Place::load(heap, RecordReader { place: 1, size }, found.first)?;
         let second = Place::load(heap, RecordReader { place: 2, size }, found.second)?;
         let third = Place::load(heap, RecordReader { place: 3, size }, found.third)?;

@@ -1,21 +1,20 @@
 use Rattle.std.proofs.Common.{Bor, ◌∙◌, arith, rules, tests}
-use Rattle.std.proofs.lemmas.Iterator.{YieldsList-from_slice, YieldsList-from_map}
-use Rattle.std.proofs.lemmas.Iterator.Consumers.{YieldsList-at, sum_by_from_yields_List, fits_by_from_yields_list}
+use Rattle.std.proofs.lemmas.Iterator.Consumers.{sum_by_from_yields_List, fits_by_from_yields_list}
 use Rattle.site_read.specs.Format.{held}
 use Rattle.loops.specs.declared.place.Place.{Place}
 use Rattle.loops.specs.Places.{place_table}
-use Rattle.site_write.proofs.Lengths.{loops_sum, loops_few}
+use Rattle.site_write.proofs.Lengths.{mapped, loops_sum, loops_few}
 use Rattle.site_write.proofs.length.site_loops.Goals as goal
 
 pub sum-requires-clause-fits : goal.sum-requires-clause-fits
 sum-requires-clause-fits c =
     fits_by_from_yields_list (λ (b : Bor Place). held (place_table b.now)) c.places-places.result c.map.result _
-    (YieldsList-from_map _ (λ (b : Bor Place). held (place_table b.now)) (YieldsList-at c.map.ensures.source (YieldsList-from_slice c.places-places.result cc)) c.map.ensures.closure (λ y r q k. search (rules, tests)))
+    (mapped _ (λ (b : Bor Place). held (place_table b.now)) c.places-places.result c.map.ensures.source (cc) c.map.ensures.closure (λ y r q k. search (rules, tests)))
     (let few = loops_few c.args.site.now c.places-places.result c.places-places.ensures in omega arith)
 
 pub returns : goal.returns
 returns c =
     let total =
     sum_by_from_yields_List (λ (b : Bor Place). held (place_table b.now)) c.places-places.result c.map.result c.sum.result c.sum.ensures.ran
-    (YieldsList-from_map _ (λ (b : Bor Place). held (place_table b.now)) (YieldsList-at c.map.ensures.source (YieldsList-from_slice c.places-places.result cc)) c.map.ensures.closure (λ y r q k. search (rules, tests))) in
+    (mapped _ (λ (b : Bor Place). held (place_table b.now)) c.places-places.result c.map.ensures.source (cc) c.map.ensures.closure (λ y r q k. search (rules, tests))) in
     total ∙ loops_sum c.args.site.now c.places-places.result c.places-places.ensures
