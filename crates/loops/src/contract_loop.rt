@@ -1,13 +1,13 @@
 //! A contract loop: how long it waits between messages, and how long a message holds the channel.
-ghost use Rattle.std.specs.Prelude.{◌≤◌};
+ghost use Rattle.site_read.specs.Tables.{LawfulGaps};
+ghost use Rattle.site_read.specs.Records.{gaps_in};
 
 pub use site_read::limits::Terms;
 
 #[derive(Clone, Copy)]
 pub struct ContractLoop {
     pub(crate) terms: Terms,
-    ghost gaps: { (1 ≤ terms.least_gap) × (terms.least_gap ≤ terms.greatest_gap) × (terms.greatest_gap ≤ 64) },
-    ghost holds: { (1 ≤ terms.least_hold) × (terms.least_hold ≤ terms.greatest_hold) × (terms.greatest_hold ≤ 16) },
+    ghost lawful: { LawfulGaps (gaps_in terms) },
 }
 
 pub mod load;

@@ -14,7 +14,8 @@ use site_read::field::{RecordReader, RegionReader};
 use std::alloc::Global;
 
 // The regions of a loop, and the number of their states.
-// Not one function with load_sets: the states counted on would have to stay in bounds in a closure that changes them.
+// Not one generic loader with load_sets: its clause would have to range over the facts that a closure keeps (Type 1), as
+// that states are counted on; so a loop of its own would number the regions then, and two loops would stay two.
 fn load_rows(
     heap: Global,
     reader: RegionReader,
