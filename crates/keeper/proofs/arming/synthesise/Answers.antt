@@ -1,12 +1,7 @@
 use Rattle.keeper.proofs.Guaranteed.{promised}
 use Rattle.keeper.proofs.arming.synthesise.Goals as goal
 
-pub returns : goal.returns
-returns g c =
-    let law = g.met.T.Traffic.lawful c.args.traffic.now in
+pub returns-clause-guarantee : goal.returns-clause-guarantee
+returns-clause-guarantee g c =
     let done = c.solve_and_arm.ensures in
-    record {
-      answer = done.answer;
-      after = done.after;
-      guarantee = promised _ law _ _ _ _ c.solve_and_arm.auto.map done.answer done.after;
-    }
+    promised _ (g.met.T.Traffic.lawful c.args.traffic.now) _ _ _ _ c.solve_and_arm.auto.map done.answer done.after

@@ -2,6 +2,6 @@ use Rattle.site_read.proofs.Whole.{bytes_from}
 use Rattle.verdict.proofs.Told.{made_told}
 use Rattle.verdict.proofs.Verdict.of.Goals as goal
 
-pub returns : goal.returns
-returns c =
-    record { value = c.judge.ensures; tells = made_told c.args.file.now (bytes_from c.args.file.now (λ i. (c.type_inv.file i).fits)) c.judge.result c.judge.ensures }
+pub returns-clause-tells : goal.returns-clause-tells
+returns-clause-tells c =
+    made_told c.args.file.now (bytes_from c.args.file.now (λ i. (c.type_inv.file i).fits)) c.judge.result c.judge.ensures
