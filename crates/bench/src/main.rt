@@ -11,8 +11,7 @@ use traffic::Traffic;
 /// What synthesis tells of all states, with a schedule or without.
 fn told(answer: Result<Tally, Refusal>) -> Option<Tally> {
     match answer {
-        Ok(tally) => Some(tally),
-        Err(Refusal::NoSchedule { tally, .. }) => Some(tally),
+        Ok(tally) | Err(Refusal::NoSchedule { tally, .. }) => Some(tally),
         Err(Refusal::Map(_)) => None,
     }
 }
@@ -44,11 +43,9 @@ fn run(rt: &HostRuntime) -> anyhow::Result<()> {
     rt.stdin().read_to_end(&mut file)?;
     let site = Site::read(rt.alloc(), &file).map_err(|_| anyhow!("the file is no site file"))?;
     let mut map = [0u16; 32768];
-    let (Some(states), Some(tally)) = (site.states(), solve_often(&site, times, &mut map)) else {
-        return Err(anyhow!("nothing was solved"));
-    };
-    let winning = tally.winning;
-    let rounds = tally.rounds;
+    let solved = solve_often(&site, times, &mut map).zip(site.states());
+    let (tally, states) = solved.ok_or_else(|| anyhow!("nothing was solved"))?;
+    let Tally { winning, rounds } = tally;
     println!(rt; "states {states} winning {winning} rounds {rounds}")?;
     Ok(())
 }

@@ -45,7 +45,7 @@ pub enum Answer {
 fn said(answer: Result<Answer, MapFault>) -> Answer
     ensures { result ≡ said_of answer }
 {
-    answer.unwrap_or_else(|fault| Answer::Refused(SlotFault::Map(fault)))
+    answer.unwrap_or_else(|fault| Answer::Refused(fault.into()))
 }
 
 // One call on a ready keeper.
@@ -79,7 +79,7 @@ fn ask_ready<T: Traffic>(keeper: Ready, board: Board<'_, T>, call: Call) -> (Kee
     }
 }
 
-// One call on a waiting keeper.
+// One call on a waiting keeper, with the two questions as above.
 fn ask_waiting<T: Traffic>(keeper: Waiting, board: Board<'_, T>, call: Call) -> (Keeper, Answer)
     ensures { result ≡ stepped (T.meaning board.entry.traffic.now) board.entry.map.now (AtWaiting keeper) call }
 {

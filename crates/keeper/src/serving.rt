@@ -19,6 +19,8 @@ pub struct Served {
     pub answers: Vec<Answer>,
 }
 
+/// Why a list of calls is not served.
+// Not one generic enum with LoadFault of the tables: each names its own cause, and clauses name the case.
 #[derive(Clone, Copy, PartialEq, Eq, Debug)]
 pub enum ServeFault {
     Synthesis(Refusal),

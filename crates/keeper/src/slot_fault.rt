@@ -1,6 +1,7 @@
 //! Why a grant or a report is turned away.
 ghost use Rattle.std.specs.Prelude.{◌≡◌};
 ghost use Rattle.keeper.specs.Faults.{number};
+ghost use Rattle.keeper.specs.declared.slot_fault.SlotFault.TheVariants.{Map};
 
 use game::map_fault::MapFault;
 
@@ -11,6 +12,14 @@ pub enum SlotFault {
     NotPermitted,
     /// The state reported is no next state of the granted move.
     NoNextState,
+}
+
+impl From<MapFault> for SlotFault {
+    ghost from_gives = { λ e r. r ≡ Map e };
+
+    fn from(e: MapFault) -> SlotFault {
+        SlotFault::Map(e)
+    }
 }
 
 impl SlotFault {

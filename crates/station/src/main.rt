@@ -65,6 +65,7 @@ fn run_input(rt: &HostRuntime, slots: u32) -> anyhow::Result<()> {
 }
 
 /// How many slots to run: the first argument.
+// As bench reads its own: no crate is shared by programs alone.
 fn read_slots(argument: Option<String>) -> anyhow::Result<u32> {
     argument
         .ok_or_else(|| anyhow!("say how many slots to run"))?

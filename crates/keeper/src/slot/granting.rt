@@ -48,7 +48,7 @@ impl Ready {
                 Ok(Waiting { state, mv })
             }
             Ok(false) => Err((SlotFault::NotPermitted, self)),
-            Err(fault) => Err((SlotFault::Map(fault), self)),
+            Err(fault) => Err((fault.into(), self)),
         }
     }
 }

@@ -44,7 +44,7 @@ impl Waiting {
         match self.takes(board, to) {
             Ok(true) => Ok(Ready { state: to }),
             Ok(false) => Err((SlotFault::NoNextState, self)),
-            Err(fault) => Err((SlotFault::Map(fault), self)),
+            Err(fault) => Err((fault.into(), self)),
         }
     }
 }
