@@ -191,17 +191,11 @@ def refusal(data: bytes) -> str | None:
     return None
 
 
-def verdict_line(data: bytes) -> str:
-    """What the product says of a file: its joint states, or why it is refused."""
-    return refusal(data) or f"states {joint_states(read(data))}"
-
-
 def dump(data: bytes) -> str:
-    """The fields of a file that has no fault, a line for each, and then its verdict line."""
+    """The fields of a file that has no fault, a line for each."""
     lines = ["offset  bytes     meaning"]
     offset = 0
     for field, meaning in fields(read(data)):
         lines.append(f"{offset:6}  {field.hex(' ').upper():8}  {meaning}")
         offset += len(field)
-    lines.append(verdict_line(data))
     return "\n".join(lines) + "\n"

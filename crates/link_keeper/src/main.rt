@@ -7,7 +7,8 @@ use verdict::Verdict;
 fn run(rt: &HostRuntime) -> anyhow::Result<()> {
     let mut file = Vec::new(rt.alloc());
     rt.stdin().read_to_end(&mut file)?;
-    let verdict = Verdict::of(rt.alloc(), &file)?;
+    let mut map = [0u16; 32768];
+    let verdict = Verdict::of(rt.alloc(), &file, &mut map)?;
     println!(rt; "{verdict}")?;
     Ok(())
 }

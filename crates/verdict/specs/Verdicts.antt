@@ -1,31 +1,59 @@
--- The verdict on a site file, and the line that says it.
-use Rattle.std.specs.Prelude.{◌≡◌, ℕ, ◌<◌, ◌≤◌, List, ◌++◌, Some, None, Ok, Err, codes, decimal, Option, Result}
+-- The verdict on a site file, the map afterwards, and the lines that say the verdict.
+use Rattle.std.specs.Prelude.{◌≡◌, ℕ, List, ◌++◌, Some, None, Ok, Err, codes, decimal, Option, Result}
+use Rattle.std.specs.declared.alloc.AllocError.{AllocError}
 use Rattle.site_read.specs.declared.fault.Fault.{Fault}
 use Rattle.site_read.specs.Faults.{report, told, refusal}
-use Rattle.site_read.specs.Format.{Places, LawfulSite, file_of}
+use Rattle.site_read.specs.Format.{Places}
 use Rattle.site_read.specs.Sites.{site}
-use Rattle.site.specs.Joint.{joint_states, counted}
+use Rattle.site.specs.Joint.{counted}
+use Rattle.site.specs.SiteTraffic.{site_meaning}
+use Rattle.game.specs.declared.solution.Refusal.{Refusal}
+use Rattle.game.specs.declared.solution.Refusal.TheVariants.{NoSchedule as NoSchedule-found, Map}
+use Rattle.game.specs.Maps.{number}
+use Rattle.game.specs.Answers.{solved, map_after}
+use Rattle.keeper.specs.declared.arming.Armed.{Armed}
+use Rattle.keeper.specs.Arming.{armed}
 use Rattle.verdict.specs.declared.Verdict.{Verdict}
-use Rattle.verdict.specs.declared.Verdict.TheVariants.{States, Refused}
+use Rattle.verdict.specs.declared.Verdict.TheVariants.{Schedule, NoSchedule, Refused}
 
--- a site over the limits is refused with number 9, for the whole file
-abbrev pub sized : Option ℕ → Verdict
-sized (Some n) = States n
-sized None = Refused (told 9 0 0)
+-- what synthesis found, said of a site of n joint states; a map that it refuses is a refusal of the whole file
+abbrev pub ruled : ℕ → Result Armed Refusal → Verdict
+ruled n (Ok a) = Schedule n a.tally
+ruled n (Err (NoSchedule-found k t)) = NoSchedule n t k
+ruled n (Err (Map f)) = Refused (told (number f) 0 0)
 
-abbrev pub judged : Result Places Fault → Verdict
-judged (Ok p) = sized (counted p)
-judged (Err e) = Refused (report e)
+-- a site over the limits is refused with number 9
+abbrev pub counted_verdict : Option ℕ → Result Armed Refusal → Verdict
+counted_verdict (Some n) found = ruled n found
+counted_verdict None found = Refused (told 9 0 0)
 
-abbrev pub verdict_of : List ℕ → Verdict
-verdict_of file = judged (site file)
+abbrev pub counted_map : Option ℕ → List ℕ → List ℕ → List ℕ
+counted_map (Some n) before after = after
+counted_map None before after = before
 
-abbrev pub line : Verdict → List ℕ
-line (States n) = codes "states " ++ decimal n
-line (Refused r) = refusal r
+-- synthesis from joint state 0
+abbrev pub site_verdict : Places → List ℕ → Verdict
+site_verdict p map = counted_verdict (counted p) (armed 0 (solved (site_meaning p) 0 map))
 
--- What a verdict says of a file: it is that of a lawful site of so many joint states, at most 32,768; or every lawful site
--- that has this file, if there is one, has more
-abbrev pub Tells : List ℕ → Verdict → Type 0
-Tells file (States n) = (p : Places) × LawfulSite p × (file ≡ file_of p) × (joint_states p ≡ n) × (n ≤ 32768)
-Tells file (Refused r) = (p : Places) → LawfulSite p → file ≡ file_of p → 32768 < joint_states p
+abbrev pub site_map : Places → List ℕ → List ℕ
+site_map p map = counted_map (counted p) map (map_after (site_meaning p) 0 map)
+
+abbrev pub verdict_by : Result Places Fault → List ℕ → Verdict
+verdict_by (Ok p) map = site_verdict p map
+verdict_by (Err e) map = Refused (report e)
+
+abbrev pub map_by : Result Places Fault → List ℕ → List ℕ
+map_by (Ok p) map = site_map p map
+map_by (Err e) map = map
+
+-- the verdict on a file and the map afterwards; for want of memory there is no verdict, and the map is as it was
+abbrev pub Judged : List ℕ → List ℕ → List ℕ → Result Verdict AllocError → Type 0
+Judged file before after (Ok v) = (v ≡ verdict_by (site file) before) × (after ≡ map_by (site file) before)
+Judged file before after (Err _) = after ≡ before
+
+abbrev pub lines : Verdict → List ℕ
+lines (Schedule n t) =
+    codes "states " ++ (decimal n ++ (codes "\nwinning " ++ (decimal t.winning ++ (codes "\nrounds " ++ (decimal t.rounds ++ codes "\nstart yes")))))
+lines (NoSchedule n t k) =
+    codes "states " ++ (decimal n ++ (codes "\nwinning " ++ (decimal t.winning ++ (codes "\nrounds " ++ (decimal t.rounds ++ (codes "\nstart no " ++ decimal k))))))
+lines (Refused r) = refusal r

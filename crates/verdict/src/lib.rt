@@ -1,9 +1,13 @@
-//! From a site file to the program's line: the number of joint states, or why the file is refused.
+//! From a site file to what the program prints: the verdict on the site's game, or why the file is refused.
 #![tactic(auto)]
 
-ghost use Rattle.std.specs.Prelude.{◌≡◌, IfOk, Some};
-ghost use Rattle.verdict.specs.Verdicts.{verdict_of, Tells, sized, line};
+ghost use Rattle.std.specs.Prelude.{◌≡◌, length, IfOk, Some};
+ghost use Rattle.site.specs.Loaded.{site_places};
+ghost use Rattle.verdict.specs.Verdicts.{ruled, site_verdict, site_map, Judged, lines};
+ghost use Rattle.verdict.specs.Tells.{Tells};
 
+use game::solution::{Refusal, Tally};
+use keeper::arming::{Armed, synthesise};
 use loops::load_fault::LoadFault;
 use site::site::Site;
 use site::site::group::GroupFault;
@@ -11,57 +15,106 @@ use site_read::fault::Report;
 use std::alloc::{AllocError, Global};
 use std::fmt;
 
-/// What is said of a site file.
+/// What is said of a site file. The start is joint state 0.
 #[derive(Clone, Copy, PartialEq, Eq, Debug)]
 pub enum Verdict {
-    /// The site has this many joint states.
-    States(usize),
+    /// The site has so many joint states, and the start is safe.
+    Schedule {
+        states: usize,
+        tally: Tally,
+    },
+    /// Every rule is led into a jam from the start, within `count` checks; within fewer, some rule is not.
+    NoSchedule {
+        states: usize,
+        tally: Tally,
+        count: u16,
+    },
     Refused(Report),
 }
 
 impl fmt::Display for Verdict {
-    ghost output = { λ v. Some (line v) };
+    ghost output = { λ v. Some (lines v) };
 
     fn fmt<W: fmt::Write>(&self, f: &mut fmt::Formatter<W>) -> fmt::Result {
         match self {
-            Verdict::States(n) => write!(f, "states {n}"),
+            Verdict::Schedule {
+                states,
+                tally: Tally { winning, rounds },
+            } => write!(
+                f,
+                "states {states}\nwinning {winning}\nrounds {rounds}\nstart yes"
+            ),
+            Verdict::NoSchedule {
+                states,
+                tally: Tally { winning, rounds },
+                count,
+            } => write!(
+                f,
+                "states {states}\nwinning {winning}\nrounds {rounds}\nstart no {count}"
+            ),
             Verdict::Refused(report) => write!(f, "{report}"),
         }
     }
 }
 
 impl Verdict {
-    // On a site of so many joint states, absent over the limits.
-    fn of_states(states: Option<usize>) -> Verdict
-        ensures { result ≡ sized states }
+    // What is found on a site of so many joint states.
+    fn of_synthesis(states: usize, found: Result<Armed, Refusal>) -> Verdict
+        ensures { result ≡ ruled states found }
     {
-        match states {
-            Some(n) => Verdict::States(n),
-            None => Verdict::Refused(Report {
-                number: GroupFault::OverLimits.number(),
+        match found {
+            Ok(armed) => Verdict::Schedule {
+                states,
+                tally: armed.tally,
+            },
+            Err(Refusal::NoSchedule { count, tally }) => Verdict::NoSchedule {
+                states,
+                tally,
+                count,
+            },
+            Err(Refusal::Map(fault)) => Verdict::Refused(Report {
+                number: fault.number(),
                 place: 0,
                 at: 0,
             }),
         }
     }
 
-    // What the code makes of a file. Apart from of, so that what it tells is proved over one exit.
-    fn judge(heap: Global, file: &[u8]) -> Result<Verdict, AllocError>
-        ensures { IfOk result (λ v. v ≡ verdict_of file.now) }
+    // On a site that is loaded.
+    fn of_site(site: &Site, map: &mut [u16]) -> Verdict
+        ensures value { result ≡ site_verdict (site_places site.now) map.old }
+        ensures after { map.new ≡ site_map (site_places site.now) map.old }
+    {
+        match site.states() {
+            None => Verdict::Refused(Report {
+                number: GroupFault::OverLimits.number(),
+                place: 0,
+                at: 0,
+            }),
+            Some(states) => {
+                let found = synthesise(site, 0, map);
+                Verdict::of_synthesis(states, found)
+            }
+        }
+    }
+
+    // What the code makes of a file.
+    fn judge(heap: Global, file: &[u8], map: &mut [u16]) -> Result<Verdict, AllocError>
+        ensures { Judged file.now map.old map.new result }
     {
         let mut site = Site::new();
         match site.load(heap, file) {
-            Ok(()) => Ok(Verdict::of_states(site.states())),
+            Ok(()) => Ok(Verdict::of_site(&site, map)),
             Err(LoadFault::File(fault)) => Ok(Verdict::Refused(fault.into())),
             Err(LoadFault::Memory) => Err(AllocError),
         }
     }
 
-    /// On a site file. An error is want of memory.
-    pub fn of(heap: Global, file: &[u8]) -> Result<Verdict, AllocError>
-        ensures value { IfOk result (λ v. v ≡ verdict_of file.now) }
-        ensures tells { IfOk result (Tells file.now) }
+    /// On a site file, with a map of marks to work on, which should have room for 32,768. An error is want of memory.
+    pub fn of(heap: Global, file: &[u8], map: &mut [u16]) -> Result<Verdict, AllocError>
+        ensures value { Judged file.now map.old map.new result }
+        ensures tells { IfOk result (Tells file.now (length map.old)) }
     {
-        Verdict::judge(heap, file)
+        Verdict::judge(heap, file, map)
     }
 }
