@@ -16,7 +16,7 @@ pub record LoopsAlwaysDue : Type 0 where
   pub two_such_loops_jam_at_once : marks_of two_always_due ≡ 1 ∷ []
   pub two_such_loops_have_no_schedule : HasNoSchedule two_always_due 0 (record { winning = 0; rounds = 1 })
 
--- loops that are due at every second check without a send
+-- loops that are due at the second check since their last send
 pub record LoopsOfTwoChecks : Type 0 where
   pub two_loops_of_two_checks_are_unsafe_only_in_a_jam : marks_of two_of_two_checks ≡ 0 ∷ 0 ∷ 0 ∷ 1 ∷ []
   pub one_of_two_such_loops_must_send : (m : ℕ) → may_begin two_of_two_checks m ≡ (m == 1 || m == 2)
@@ -34,7 +34,7 @@ pub record LoopsBesideAContract : Type 0 where
   pub beside_a_loop_of_three_checks_there_is_a_schedule : HasSchedule contract_and_three_checks (record { winning = 6; rounds = 2 })
   pub beside_a_loop_of_three_checks_the_contract_is_picked : first_pick contract_and_three_checks ≡ Some 1
 
--- each of these sites has a file, from which it is loaded
+-- every site here but the empty one is lawful: it has a file, and can be loaded from it
 pub record SitesOfFiles : Type 0 where
   pub always_due_is_lawful : LawfulSite always_due
   pub two_always_due_are_lawful : LawfulSite two_always_due

@@ -7,11 +7,11 @@ use Rattle.site_read.specs.Format.{Places}
 abbrev pub loop_of : ℕ → ℕ → Option Table
 loop_of e d = Some (by_regions (record { earliest = e; deadline = d; targets = replicate (d + 1 - e) 1 } ∷ []))
 
--- the contract: one or two checks from one message to the next, and one or two for a message
+-- the contract: one or two checks pass between messages, and a message holds the channel for one or two
 abbrev pub contract : Option Table
 contract = Some (by_contract (record { least_gap = 1; greatest_gap = 2; least_hold = 1; greatest_hold = 2 }))
 
--- at most three places hold a loop
+-- three places, and the fourth is vacant
 abbrev pub holding : Option Table → Option Table → Option Table → Places
 holding a b c = record { first = a; second = b; third = c; fourth = None }
 
