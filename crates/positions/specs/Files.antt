@@ -15,7 +15,7 @@ whole = file_of two_of_two_checks
 abbrev pub cut_short : List ℕ
 cut_short = take 21 whole
 
--- the same with 2 for its first set, in bytes 10 and 11: it names region 1, which the loop has not
+-- the same with 2 for its first set, in bytes 10 and 11: it names region 1, which the loop has not. It is examples/damaged.lkt
 abbrev pub stray_set : List ℕ
 stray_set = slice_set whole 11 2
 

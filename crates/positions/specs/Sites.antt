@@ -30,6 +30,7 @@ two_of_two_checks = holding (loop_of 1 2) (loop_of 1 2) None
 abbrev pub three_of_two_checks : Places
 three_of_two_checks = holding (loop_of 1 2) (loop_of 1 2) (loop_of 1 2)
 
+-- the site of examples/contract-pair.lkt
 abbrev pub contract_and_two_checks : Places
 contract_and_two_checks = holding contract (loop_of 1 2) None
 
