@@ -1,61 +1,72 @@
-//! Compares the proved reader and writer with a table of cases that an independent program made.
+//! Compares the proved solver, reader and writer with a table of cases that an independent program made.
 //!
 //! A line of the table is a site file in hex, a colon, a blank and the lines that the verdict is expected to have, with a
-//! comma and a blank between them; a line that begins with `#` is a comment. An accepted file is also written back.
+//! comma and a blank between them. Where the file is accepted, `; marks ` and the marks of all states follow: `0*3 1` says
+//! that the first three have mark 0 and the fourth has mark 1. A line that begins with `#` is a comment.
+//!
+//! The whole map is compared: the marks, and what is behind them. An accepted file is also written back.
 #![tactic(auto)]
 
-ghost use Rattle.std.specs.Prelude.{◌<◌, IfSome};
-
+use crate::case::Case;
+use crate::map::{ROOM, UNMARKED, expected_map, first_difference};
 use anyhow::anyhow;
 use site::site::Site;
 use site_write::write::{WriteFault, write_site};
 use std::alloc::{AllocError, Global};
-use std::io;
 use std::io::{BufRead, BufReader};
 use verdict::Verdict;
+
+mod case;
+mod map;
 
 /// What a byte of a buffer is before a write, and where no write may come.
 const UNTOUCHED: u8 = 0xA5;
 
-#[derive(Drop)]
-struct Tally {
-    cases: u32,
+/// How many things were compared, and how many of them are as expected.
+#[derive(Clone, Copy, Default)]
+struct Count {
+    all: u32,
     agree: u32,
-    accepted: u32,
-    written_back: u32,
 }
 
-fn digit(b: u8) -> Option<u8>
-    ensures { IfSome result (λ d. d < 16) }
-{
-    match b {
-        b'0'..=b'9' => Some(b - b'0'),
-        b'A'..=b'F' => Some(b - b'A' + 10),
-        _ => None,
+impl Count {
+    fn add(&mut self, agrees: bool) {
+        self.all = self.all.saturating_add(1);
+        if agrees {
+            self.agree = self.agree.saturating_add(1);
+        }
     }
 }
 
-fn byte(high: u8, low: u8) -> Option<u8> {
-    let high = digit(high)?;
-    let low = digit(low)?;
-    Some(high * 16 + low)
+#[derive(Clone, Copy, Default)]
+struct Tally {
+    verdicts: Count,
+    /// Of the accepted files.
+    maps: Count,
+    written_back: Count,
+    /// The maps of the refused files, which stay as they were.
+    left_alone: Count,
 }
 
-/// The bytes that a text in hex stands for, or none where it is no hex.
-// By hand: the library's hex takes small letters too, and tells want of memory as a fault of the text.
-fn unhex(heap: Global, hex: &[u8]) -> Result<Option<Vec<u8>>, AllocError> {
-    let mut bytes = Vec::new(heap);
-    for pair in hex.chunks(2) {
-        let [high, low] = pair else {
-            return Ok(None);
-        };
-        // a `?` on an Option cannot leave a function that may also want memory
-        let Some(b) = byte(*high, *low) else {
-            return Ok(None);
-        };
-        bytes.push(b)?;
+impl Tally {
+    fn print(self, rt: &HostRuntime) -> anyhow::Result<()> {
+        let Tally {
+            verdicts,
+            maps,
+            written_back,
+            left_alone,
+        } = self;
+        println!(rt; "{} cases: {} verdicts agree", verdicts.all, verdicts.agree)?;
+        println!(rt;
+            "{} accepted files: {} maps agree, {} written back",
+            maps.all, maps.agree, written_back.agree
+        )?;
+        println!(rt;
+            "{} refused files: {} maps left alone",
+            left_alone.all, left_alone.agree
+        )?;
+        Ok(())
     }
-    Ok(Some(bytes))
 }
 
 fn is_untouched(buffer: &[u8]) -> bool {
@@ -85,21 +96,6 @@ fn comes_back(heap: Global, file: &[u8]) -> Result<bool, AllocError> {
     Ok(is_written_as(heap, &site, file)? && is_too_short(heap, &site, file.len())?)
 }
 
-impl Tally {
-    fn count(&mut self, agrees: bool, back: Option<bool>) {
-        self.cases = self.cases.saturating_add(1);
-        if agrees {
-            self.agree = self.agree.saturating_add(1);
-        }
-        if let Some(same) = back {
-            self.accepted = self.accepted.saturating_add(1);
-            if same {
-                self.written_back = self.written_back.saturating_add(1);
-            }
-        }
-    }
-}
-
 /// Whether a verdict's lines are those expected.
 fn is_said_as(verdict: &str, expected: &str) -> bool {
     let mut wanted = expected.split(", ");
@@ -111,60 +107,62 @@ fn is_said_as(verdict: &str, expected: &str) -> bool {
     wanted.next().is_none()
 }
 
-fn print_difference(rt: &HostRuntime, hex: &str, found: &str, expected: &str) -> io::Result<()> {
-    println!(rt; "{hex}: {found}, expected {expected}")
+/// Whether the verdict is the one expected. It is printed where it is another.
+fn verdict_agrees(rt: &HostRuntime, case: Case<'_>, verdict: Verdict) -> anyhow::Result<bool> {
+    let said = format!(in rt.alloc(); "{verdict}")?;
+    let agrees = is_said_as(said.as_str(), case.verdict);
+    if !agrees {
+        println!(rt; "{}: {said}, expected {}", case.hex, case.verdict)?;
+    }
+    Ok(agrees)
 }
 
-/// Counts one case, and prints it where the verdict is another.
-fn compare_case(
-    rt: &HostRuntime,
-    tally: &mut Tally,
-    hex: &str,
-    expected: &str,
-) -> anyhow::Result<()> {
-    let file = unhex(rt.alloc(), hex.as_bytes())?.ok_or_else(|| anyhow!("a case is no hex"))?;
-    let mut map = [0u16; 32768];
-    let verdict = Verdict::of(rt.alloc(), &file, &mut map)?;
-    let said = format!(in rt.alloc(); "{verdict}")?;
-    let agrees = is_said_as(said.as_str(), expected);
-    if !agrees {
-        print_difference(rt, hex, said.as_str(), expected)?;
+/// Whether the whole map is as expected. The first difference is printed.
+fn map_agrees(rt: &HostRuntime, case: Case<'_>, map: &[u16]) -> anyhow::Result<bool> {
+    let expected = expected_map(rt.alloc(), case.marks)?;
+    let difference = first_difference(map, &expected);
+    if let Some(difference) = difference {
+        println!(rt; "{}: {difference}", case.hex)?;
     }
-    let back = match verdict {
-        Verdict::Refused(_) => None,
-        _ => Some(comes_back(rt.alloc(), &file)?),
-    };
-    tally.count(agrees, back);
+    Ok(difference.is_none())
+}
+
+/// Whether the file is written back. It is printed where it is not.
+fn file_agrees(rt: &HostRuntime, case: Case<'_>, file: &[u8]) -> anyhow::Result<bool> {
+    let agrees = comes_back(rt.alloc(), file)?;
+    if !agrees {
+        println!(rt; "{}: not written back", case.hex)?;
+    }
+    Ok(agrees)
+}
+
+fn compare_case(rt: &HostRuntime, tally: &mut Tally, case: Case<'_>) -> anyhow::Result<()> {
+    let file = case.file(rt.alloc())?;
+    let mut map = [UNMARKED; ROOM];
+    let verdict = Verdict::of(rt.alloc(), &file, &mut map)?;
+    tally.verdicts.add(verdict_agrees(rt, case, verdict)?);
+    let same_map = map_agrees(rt, case, &map)?;
+    match verdict {
+        Verdict::Refused(_) => tally.left_alone.add(same_map),
+        _ => {
+            tally.maps.add(same_map);
+            tally.written_back.add(file_agrees(rt, case, &file)?);
+        }
+    }
     Ok(())
 }
 
 fn run(rt: &HostRuntime) -> anyhow::Result<()> {
-    let mut tally = Tally {
-        cases: 0,
-        agree: 0,
-        accepted: 0,
-        written_back: 0,
-    };
+    let mut tally = Tally::default();
     for line in BufReader::new(rt.alloc(), rt.stdin())?.lines(rt.alloc()) {
         let line = line?;
         if line.as_str().starts_with('#') {
             continue;
         }
-        let (hex, expected) = line
-            .as_str()
-            .split_once(": ")
-            .ok_or_else(|| anyhow!("a case has no verdict"))?;
-        compare_case(rt, &mut tally, hex, expected)?;
+        let case = Case::of_line(line.as_str()).ok_or_else(|| anyhow!("a case has no verdict"))?;
+        compare_case(rt, &mut tally, case)?;
     }
-    let Tally {
-        cases,
-        agree,
-        accepted,
-        written_back,
-    } = tally;
-    println!(rt; "{cases} cases: {agree} verdicts agree")?;
-    println!(rt; "{accepted} accepted files: {written_back} written back")?;
-    Ok(())
+    tally.print(rt)
 }
 
 fn main(rt: HostRuntime) -> anyhow::Result<()> {
