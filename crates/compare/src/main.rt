@@ -112,7 +112,7 @@ fn verdict_agrees(rt: &HostRuntime, case: Case<'_>, verdict: Verdict) -> anyhow:
     let said = format!(in rt.alloc(); "{verdict}")?;
     let agrees = is_said_as(said.as_str(), case.verdict);
     if !agrees {
-        println!(rt; "{}: {said}, expected {}", case.hex, case.verdict)?;
+        println!(rt; "{}: expected {}, found\n{said}", case.hex, case.verdict)?;
     }
     Ok(agrees)
 }
