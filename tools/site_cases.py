@@ -18,6 +18,7 @@ NUMBER_WORDS = [
 ]
 
 FAULTS = range(1, 10)
+MOST_SMALL_STATES = 2500
 
 # Words in the meaning of the fields in which a fault may stand.
 FAULTY_FIELDS = {
@@ -239,7 +240,7 @@ def random_holding_contract(dice, loop_count):
 
 
 def random_branching_loops(dice, loop_count):
-    """Loops in which the plants choose at every send: of several regions, and of contracts that may hold."""
+    """Loops whose sends leave the plants a choice: of several regions, or to hold on or let go."""
     loops = [random_branching_regions(dice, loop_count), random_holding_contract(dice, loop_count)]
     while len(loops) < loop_count:
         loops.append(dice.choice([random_branching_regions, random_holding_contract])(dice, loop_count))
@@ -247,11 +248,11 @@ def random_branching_loops(dice, loop_count):
     return loops
 
 
-def random_small_loops(dice, make, loop_count, most_states=2500):
+def random_small_loops(dice, make, loop_count):
     """So many loops as the maker makes them, with not too many joint states."""
     while True:
         loops = make(dice, loop_count)
-        if joint_states(loops) <= most_states:
+        if joint_states(loops) <= MOST_SMALL_STATES:
             return loops
 
 
