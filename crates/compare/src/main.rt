@@ -3,6 +3,7 @@
 //! A line of the table is a site file in hex, a colon, a blank and the lines that the verdict is expected to have, with a
 //! comma and a blank between them. Where the file is accepted, `; marks ` and the marks of all states follow: `0*3 1` says
 //! that the first three have mark 0 and the fourth has mark 1. A line that begins with `#` is a comment.
+//! One that begins with `!` is wrong on purpose: a difference is to be found, and is printed.
 //!
 //! The whole map is compared: the marks, and what is behind them. An accepted file is also written back.
 #![tactic(auto)]
@@ -36,6 +37,10 @@ impl Count {
             self.agree = self.agree.saturating_add(1);
         }
     }
+
+    fn is_whole(self) -> bool {
+        self.agree == self.all
+    }
 }
 
 #[derive(Clone, Copy, Default)]
@@ -46,15 +51,26 @@ struct Tally {
     written_back: Count,
     /// The maps of the refused files, which stay as they were.
     left_alone: Count,
+    /// The lines that are wrong on purpose: those in which a difference is found.
+    wrong: Count,
 }
 
 impl Tally {
+    /// Whether all cases but those that are wrong on purpose are as expected.
+    fn is_well(self) -> bool {
+        self.verdicts.is_whole()
+            && self.maps.is_whole()
+            && self.written_back.is_whole()
+            && self.left_alone.is_whole()
+    }
+
     fn print(self, rt: &HostRuntime) -> anyhow::Result<()> {
         let Tally {
             verdicts,
             maps,
             written_back,
             left_alone,
+            wrong,
         } = self;
         println!(rt; "{} cases: {} verdicts agree", verdicts.all, verdicts.agree)?;
         println!(rt;
@@ -64,6 +80,10 @@ impl Tally {
         println!(rt;
             "{} refused files: {} maps left alone",
             left_alone.all, left_alone.agree
+        )?;
+        println!(rt;
+            "{} lines wrong on purpose: {} differences found",
+            wrong.all, wrong.agree
         )?;
         Ok(())
     }
@@ -152,6 +172,26 @@ fn compare_case(rt: &HostRuntime, tally: &mut Tally, case: Case<'_>) -> anyhow::
     Ok(())
 }
 
+/// A comparison that finds no difference shows something only where it would find one.
+fn compare_wrong(rt: &HostRuntime, tally: &mut Tally, case: Case<'_>) -> anyhow::Result<()> {
+    let mut alone = Tally::default();
+    compare_case(rt, &mut alone, case)?;
+    tally.wrong.add(!alone.is_well());
+    Ok(())
+}
+
+fn compare_line(rt: &HostRuntime, tally: &mut Tally, line: &str) -> anyhow::Result<()> {
+    let wrong = line.strip_prefix('!');
+    let case = Case::of_line(wrong.unwrap_or(line)).ok_or_else(|| anyhow!(
+        "a case has no verdict"
+    ))?;
+    if wrong.is_some() {
+        compare_wrong(rt, tally, case)
+    } else {
+        compare_case(rt, tally, case)
+    }
+}
+
 fn run(rt: &HostRuntime) -> anyhow::Result<()> {
     let mut tally = Tally::default();
     for line in BufReader::new(rt.alloc(), rt.stdin())?.lines(rt.alloc()) {
@@ -159,8 +199,7 @@ fn run(rt: &HostRuntime) -> anyhow::Result<()> {
         if line.as_str().starts_with('#') {
             continue;
         }
-        let case = Case::of_line(line.as_str()).ok_or_else(|| anyhow!("a case has no verdict"))?;
-        compare_case(rt, &mut tally, case)?;
+        compare_line(rt, &mut tally, line.as_str())?;
     }
     tally.print(rt)
 }

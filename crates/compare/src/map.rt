@@ -63,7 +63,7 @@ impl fmt::Display for Difference {
             found,
             expected,
         } = *self;
-        write!(f, "state {place} has mark {found}, expected {expected}")
+        write!(f, "place {place} of the map has {found}, expected {expected}")
     }
 }
 
