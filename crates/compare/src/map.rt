@@ -63,7 +63,10 @@ impl fmt::Display for Difference {
             found,
             expected,
         } = *self;
-        write!(f, "place {place} of the map has {found}, expected {expected}")
+        write!(
+            f,
+            "place {place} of the map has {found}, expected {expected}"
+        )
     }
 }
 
