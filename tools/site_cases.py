@@ -7,7 +7,7 @@ from collections import Counter
 from dataclasses import dataclass
 from itertools import groupby
 
-from site_file import ContractLoop, RegionLoop, fields, joint_states, read, refusal, write
+from site_file import ContractLoop, RegionLoop, fields, joint_states, one_region, read, refusal, write
 from site_game import answer_lines, marks
 from site_traffic import MOST_STATES, Traffic
 
@@ -73,15 +73,6 @@ def summary(cases):
     at_the_limit = sum(case.found is not None and len(case.found) == MOST_STATES for case in cases)
     faults = ", ".join(f"{number}: {numbers[number]}" for number in FAULTS)
     return f"{len(cases)} cases, {numbers[None]} accepted, {at_the_limit} at the limit; refused by number {faults}"
-
-
-# Loops
-
-
-def one_region(earliest, deadline):
-    """A region loop with region 0 alone. It may break the rules, but has at least one set and not very many."""
-    set_count = min(max(deadline - earliest + 1, 1), 66)
-    return RegionLoop([(earliest, deadline, [1] * set_count)])
 
 
 # Changes to a file

@@ -32,6 +32,13 @@ class ContractLoop:
     greatest_hold: int
 
 
+def one_region(earliest, deadline):
+    """A region loop with region 0 alone, to which every send leads. Where the two break the rules it has at least one set, and
+    not very many."""
+    set_count = min(max(deadline - earliest + 1, 1), 66)
+    return RegionLoop([(earliest, deadline, [0b1] * set_count)])
+
+
 class Fault(Exception):
     """What is wrong with a file: the fault's number, its loop (from 1; 0 for none) and its byte offset."""
 

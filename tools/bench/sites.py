@@ -6,12 +6,7 @@ from pathlib import Path
 
 sys.dont_write_bytecode = True
 sys.path.insert(0, str(Path(__file__).resolve().parent.parent))
-from site_file import RegionLoop, write
-
-
-def one_region(earliest, deadline):
-    """A region loop with region 0 alone, to which every send leads."""
-    return RegionLoop([(earliest, deadline, [0b1] * (deadline - earliest + 1))])
+from site_file import RegionLoop, one_region, write
 
 
 def random_loop(dice, region_count, deadlines, widest, targets):
