@@ -37,7 +37,7 @@ module _ (p : Places) where
   -- a keeper is armed, ready in state 0, and some rule is never led into a jam
   abbrev pub HasSchedule : Tally → Type 0
   HasSchedule t =
-      Synthesis (Ok (record { keeper = record { state = 0 }; tally = t })) × ((ρ : Rule (site_meaning p)) × (Led ρ 0 → ⊥))
+      Synthesis (armed 0 (Ok t)) × ((ρ : Rule (site_meaning p)) × (Led ρ 0 → ⊥))
 
   -- no keeper is armed, and k is the least number of checks within which every rule is led into a jam
   abbrev pub HasNoSchedule : ℕ → Tally → Type 0

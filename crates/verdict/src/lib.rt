@@ -2,9 +2,11 @@
 #![tactic(auto)]
 
 ghost use Rattle.std.specs.Prelude.{◌≡◌, length, IfOk, Some};
+ghost use Rattle.site_read.specs.Faults.{told};
 ghost use Rattle.site.specs.Loaded.{site_places};
 ghost use Rattle.verdict.specs.Verdicts.{ruled, site_verdict, site_map, Judged, lines};
 ghost use Rattle.verdict.specs.Tells.{Tells};
+ghost use Rattle.verdict.specs.declared.Verdict.TheVariants.{Refused};
 
 use game::solution::{Refusal, Tally};
 use keeper::arming::{Armed, synthesise};
@@ -58,6 +60,17 @@ impl fmt::Display for Verdict {
 }
 
 impl Verdict {
+    // Refused by this number, and no loop or byte is at fault.
+    fn refused_whole(number: u8) -> Verdict
+        ensures { result ≡ Refused (told number 0 0) }
+    {
+        Verdict::Refused(Report {
+            number,
+            place: 0,
+            at: 0,
+        })
+    }
+
     // What is found on a site of so many joint states.
     fn of_synthesis(states: usize, found: Result<Armed, Refusal>) -> Verdict
         ensures { result ≡ ruled states found }
@@ -72,11 +85,7 @@ impl Verdict {
                 tally,
                 count,
             },
-            Err(Refusal::Map(fault)) => Verdict::Refused(Report {
-                number: fault.number(),
-                place: 0,
-                at: 0,
-            }),
+            Err(Refusal::Map(fault)) => Verdict::refused_whole(fault.number()),
         }
     }
 
@@ -86,11 +95,7 @@ impl Verdict {
         ensures after { map.new ≡ site_map (site_places site.now) map.old }
     {
         match site.states() {
-            None => Verdict::Refused(Report {
-                number: GroupFault::OverLimits.number(),
-                place: 0,
-                at: 0,
-            }),
+            None => Verdict::refused_whole(GroupFault::OverLimits.number()),
             Some(states) => {
                 let found = synthesise(site, 0, map);
                 Verdict::of_synthesis(states, found)
