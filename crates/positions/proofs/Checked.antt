@@ -3,9 +3,9 @@ use Rattle.std.proofs.Common.{◌≡◌, ℕ, zero, suc, ◌<◌, false, ◌||�
 use Rattle.std.specs.Prelude.{◌==◌}
 use Rattle.std.proofs.lemmas.Bool.{ne_eqb}
 use Rattle.traffic.specs.Searches.{some_below, every_below, least}
-use Rattle.traffic.specs.Meaning.{legal}
+use Rattle.traffic.specs.Meaning.{jam, legal}
 use Rattle.traffic.specs.Answered.{within_limits}
-use Rattle.game.specs.Game.{jam, keeps_in, holds_out, Z, mark_by, mark, permitted_by}
+use Rattle.game.specs.Game.{keeps_in, holds_out, Z, mark_by, mark, permitted_by}
 use Rattle.game.specs.Choice.{pick_by, threat, comes_before, worst, spoiler_by}
 use Rattle.game.specs.Filling.{values, how_many, winning, largest, rounds}
 use Rattle.positions.specs.Sites.{always_due, two_of_two_checks}
