@@ -5,7 +5,8 @@ use Rattle.std.proofs.lemmas.List.{map_push}
 use Rattle.loops.specs.declared.load_fault.LoadFault.{LoadFault}
 use Rattle.loops.specs.declared.load_fault.LoadFault.TheVariants.{File, Memory}
 use Rattle.loops.specs.Loading.{Loads, Holds}
-use Rattle.site_read.specs.Parse.{Parsed, then, many}
+use Rattle.site_read.specs.Parse.{Parsed, then, many, rest_of, value_of}
+use Rattle.site_read.proofs.Sound.{never}
 
 -- what is read, behind what was read before
 abbrev pub behind : {X : Type 0} → List X → Parsed (List X) → Parsed (List X)
@@ -35,6 +36,16 @@ module _ {X : Type 0} (p : List ℕ → Parsed X) where
       rw (s, append-nil xs) refl
 
 -- a fault, or want of memory, of one value is that of the whole
-pub stops : {Y X W Z : Type 0} (f : Y → X) (g : W → Z) (s : Parsed X) (s' : Result Z Fault) (y : LoadFault) → ((e : Fault) → s ≡ Err e → s' ≡ Err e) → Loads f s (Err y) → Holds g s' (Err y)
+pub stops : {Y X W Z : Type 0} (f : Y → X) (g : W → Z) (s : Parsed X) (s' : Result Z Fault) (y : LoadFault) → ((e : Fault) → s ≡ Err e → s' ≡ Err e) → Loads f s (Err y) → Holds g (Unit {0}) s' (Err y)
 stops f g s s' (File e) k h = k e h
 stops f g s s' Memory k h = tt
+
+-- what was skipped without a fault was read
+pub value_from_rest : {X : Type 0} (r : Parsed X) (rest : List ℕ) → Ok rest ≡ rest_of r → (x : X) × (value_of r ≡ Ok x)
+value_from_rest (Ok p) rest q = (p.0, refl)
+value_from_rest (Err e) rest q = never e rest (sym q)
+
+-- and then only want of memory can keep its table from being made
+pub wants_nothing_faulty : {Y X W Z : Type 0} (f : Y → X) (g : W → Z) (s : Result X Fault) (s' : Result Z Fault) → ((e : Fault) → s' ≡ Err e → s ≡ Err e) → (x : X) × (s ≡ Ok x) → (y : LoadFault) → Holds g (Unit {0}) s' (Err y) → Holds f ((x : X) × (s ≡ Ok x)) s (Err y)
+wants_nothing_faulty f g s s' k read (File e) h = k e h
+wants_nothing_faulty f g s s' k read Memory h = read

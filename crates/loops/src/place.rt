@@ -3,7 +3,7 @@ ghost use Rattle.std.specs.Prelude.{◌≡◌, drop};
 ghost use Rattle.std.specs.Option.{option_map};
 ghost use Rattle.site_read.specs.Records.{piece_of};
 ghost use Rattle.site_read.specs.Sites.{piece_table};
-ghost use Rattle.loops.specs.Loading.{Holds};
+ghost use Rattle.loops.specs.Loading.{Holds, RegionLoopRead};
 ghost use Rattle.loops.specs.Places.{place_table};
 ghost use Rattle.loops.specs.States.{place_states};
 
@@ -34,13 +34,14 @@ fn fields(bytes: &[u8]) -> &[u8]
 }
 
 impl Place {
-    /// The table of a lent record; without a record the place is vacant.
+    /// The table of a lent record; without a record the place is vacant. Only a region loop wants memory, and only once its
+    /// record is read without a fault.
     pub fn load(
         heap: Global,
         reader: RecordReader,
         lent: Option<Record<'_>>,
     ) -> Result<Place, LoadFault>
-        ensures { Holds place_table (piece_table reader.place reader.size (option_map piece_of lent.entry)) result }
+        ensures { Holds place_table (RegionLoopRead (piece_table reader.place reader.size (option_map piece_of lent.entry))) (piece_table reader.place reader.size (option_map piece_of lent.entry)) result }
     {
         match lent {
             None => Ok(Place::Vacant),

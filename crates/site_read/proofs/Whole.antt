@@ -11,8 +11,8 @@ use Rattle.site_read.specs.Tables.{Table, by_regions, by_contract, every, Lawful
 use Rattle.site_read.specs.Fields.{regions, table}
 use Rattle.site_read.specs.Format.{encode, encode_row, Bytes, Places}
 use Rattle.site_read.specs.Sites.{piece_table, slot_table, file_tables, site}
-use Rattle.site_read.specs.Records.{Piece, Pieces, piece, before, slot}
-use Rattle.site_read.proofs.Sound.{table_lawful}
+use Rattle.site_read.specs.Records.{Piece, Pieces, pieces, piece, before, slot}
+use Rattle.site_read.proofs.Sound.{never, table_lawful}
 use Rattle.site_read.proofs.Decoded.{gaps_back, regions_back}
 use Rattle.site_read.proofs.Encoded.{encodes, bytes_after}
 use Rattle.site_read.proofs.Headers.{header_exact}
@@ -80,6 +80,40 @@ whole file h = go (header file) refl
         then_assoc (slot (length file) x.0 4 r₃) _ (loads (length file))
         ∙ slot_step 4 (length file) x.0 _ _ r₃ b₃ (λ p₄ t₄ r₄ e₄ b₄.
         last_step (leb 1 (length r₄)) (length file) p₁ p₂ p₃ p₄ t₁ t₂ t₃ t₄ (Trailing (length file - length r₄)) e₁ e₂ e₃ e₄)))))
+
+-- the records and the tables of a file come to the same end
+alike_end : (b : Bool) (p : Pieces) (t : Places) (e : Fault) → then {X = Pieces} {Y = Unit {0}} (cond b (Err e) (Ok p)) (λ _. Ok tt) ≡ then {X = Places} (cond b (Err e) (Ok t)) (λ _. Ok tt)
+alike_end true p t e = refl
+alike_end false p t e = refl
+
+same_end : (file : List ℕ) → Bytes file → then {Y = Unit {0}} (pieces file) (λ _. Ok tt) ≡ then (site file) (λ _. Ok tt)
+same_end file h = go (header file) refl
+  where
+    go : (r : Parsed ℕ) → header file ≡ r → then {Y = Unit {0}} (pieces file) (λ _. Ok tt) ≡ then (site file) (λ _. Ok tt)
+    go (Err e) q = rw q refl
+    go (Ok x) q =
+        rw q
+        (then_assoc (slot (length file) x.0 1 x.1) _ (λ _. Ok tt)
+        ∙ slot_step 1 (length file) x.0 _ _ x.1 (header_exact file h x q).bytes (λ p₁ t₁ r₁ e₁ b₁.
+        then_assoc (slot (length file) x.0 2 r₁) _ (λ _. Ok tt)
+        ∙ slot_step 2 (length file) x.0 _ _ r₁ b₁ (λ p₂ t₂ r₂ e₂ b₂.
+        then_assoc (slot (length file) x.0 3 r₂) _ (λ _. Ok tt)
+        ∙ slot_step 3 (length file) x.0 _ _ r₂ b₂ (λ p₃ t₃ r₃ e₃ b₃.
+        then_assoc (slot (length file) x.0 4 r₃) _ (λ _. Ok tt)
+        ∙ slot_step 4 (length file) x.0 _ _ r₃ b₃ (λ p₄ t₄ r₄ e₄ b₄.
+        alike_end (leb 1 (length r₄)) (record { first = p₁; second = p₂; third = p₃; fourth = p₄ }) (record { first = t₁; second = t₂; third = t₃; fourth = t₄ }) (Trailing (length file - length r₄)))
+        ∙ sym (then_assoc (slot_table (length file) x.0 4 r₃) _ (λ _. Ok tt)))
+        ∙ sym (then_assoc (slot_table (length file) x.0 3 r₂) _ (λ _. Ok tt)))
+        ∙ sym (then_assoc (slot_table (length file) x.0 2 r₁) _ (λ _. Ok tt)))
+        ∙ sym (then_assoc (slot_table (length file) x.0 1 x.1) _ (λ _. Ok tt)))
+
+-- a file whose records are found is accepted
+pub records_accepted : (file : List ℕ) → Bytes file → (p : Pieces) → pieces file ≡ Ok p → (q : Places) × (site file ≡ Ok q)
+records_accepted file h p e = go (site file) (sym (same_end file h) ∙ ap (λ r. then r (λ _. Ok tt)) e)
+  where
+    go : (r : Result Places Fault) → then {Y = Unit {0}} r (λ _. Ok tt) ≡ Ok tt → (q : Places) × (r ≡ Ok q)
+    go (Ok q) z = (q, refl)
+    go (Err y) z = never y tt z
 
 -- a slice of bytes
 pub bytes_from : (bs : List ℕ) → ((i : ℕ) → get_or bs i 0 < 256) → Bytes bs

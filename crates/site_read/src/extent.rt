@@ -32,7 +32,8 @@ impl RecordReader {
         Ok(rest)
     }
 
-    pub(crate) fn skip_regions<'a>(self, rest: &'a [u8]) -> Result<&'a [u8], Fault>
+    /// The regions of a record, behind its kind: what the file has behind them.
+    pub fn skip_regions<'a>(self, rest: &'a [u8]) -> Result<&'a [u8], Fault>
         ensures { seen_rest result ≡ rest_of (regions self.place self.size rest.now) }
     {
         let (count, rest) = self.ranged(rest, 1, 16)?;

@@ -5,7 +5,7 @@ ghost use Rattle.site_read.specs.Fields.{row, regions};
 ghost use Rattle.site_read.specs.Tables.{lawful_rows};
 ghost use Rattle.loops.specs.Regions.{rows_of, numbered};
 ghost use Rattle.loops.specs.States.{deadlines};
-ghost use Rattle.loops.specs.Loading.{Holds, table_of};
+ghost use Rattle.loops.specs.Loading.{Holds, RegionsRead, table_of};
 
 use crate::load_fault::LoadFault;
 use crate::region::Region;
@@ -21,7 +21,7 @@ fn load_rows(
     reader: RegionReader,
     rest: &[u8],
 ) -> Result<(Vec<Region>, u16), LoadFault>
-    ensures read { Holds (λ p. rows_of p.0.items) (value_of (many (row reader.record.place reader.record.size reader.count) reader.count rest.now)) result }
+    ensures read { Holds (λ p. rows_of p.0.items) (Unit {0}) (value_of (many (row reader.record.place reader.record.size reader.count) reader.count rest.now)) result }
     ensures lawful { 1 ≤ reader.count → reader.count ≤ 16 → IfOk result (λ p. lawful_rows (rows_of p.0.items) ≡ true) }
     ensures counted { IfOk result (λ p. (numbered 0 p.0.items ≡ true) × (p.1 ≡ deadlines (rows_of p.0.items))) }
 {
@@ -38,10 +38,11 @@ fn load_rows(
 }
 
 impl RegionLoop {
-    /// The table in a region record's bytes, behind its kind.
+    /// The table in a region record's bytes, behind its kind. A fault of the record is found before any memory is wanted.
     pub fn load(heap: Global, reader: RecordReader, rest: &[u8]) -> Result<RegionLoop, LoadFault>
-        ensures { Holds table_of (value_of (regions reader.place reader.size rest.now)) result }
+        ensures { Holds table_of (RegionsRead (value_of (regions reader.place reader.size rest.now))) (value_of (regions reader.place reader.size rest.now)) result }
     {
+        reader.skip_regions(rest)?;
         let (count, rest) = reader.ranged(rest, 1, 16)?;
         let regions = RegionReader {
             record: reader,

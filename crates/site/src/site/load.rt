@@ -2,7 +2,7 @@
 ghost use Rattle.std.specs.Prelude.{◌≡◌};
 ghost use Rattle.site_read.specs.Sites.{file_tables, site};
 ghost use Rattle.loops.specs.Loading.{Holds};
-ghost use Rattle.site.specs.Loaded.{site_places, Loaded, Accepted, AcceptedLoad};
+ghost use Rattle.site.specs.Loaded.{site_places, RegionLoopsRead, Loaded, Accepted, FileIsRead, leaving};
 
 use crate::site::Site;
 use loops::load_fault::LoadFault;
@@ -16,7 +16,7 @@ impl Site {
     // The site that the records of a file hold.
     // Apart from read, so that its six exits speak of the records, and read brings the one result to the file.
     fn from_records(heap: Global, file: &[u8]) -> Result<Site, LoadFault>
-        ensures { Holds site_places (file_tables file.now) result }
+        ensures { Holds site_places (RegionLoopsRead (file_tables file.now)) (file_tables file.now) result }
     {
         let size = file.len();
         let found = read_records(file)?;
@@ -38,19 +38,23 @@ impl Site {
         })
     }
 
-    /// The site of a file. A file is accepted exactly when it is the file of a lawful site.
+    /// The site of a file. A file is accepted exactly when it is the file of a lawful site. Memory is wanted only for the
+    /// region loops of an accepted file.
     pub fn read(heap: Global, file: &[u8]) -> Result<Site, LoadFault>
-        ensures read { Holds site_places (site file.now) result }
+        ensures read { Holds site_places (RegionLoopsRead (site file.now)) (site file.now) result }
         ensures accepted { Accepted file.now result }
+        ensures file { FileIsRead file.now result }
     {
         Site::from_records(heap, file)
     }
 
     /// Takes the file's tables, and empties the places that it does not fill. A fault of the file, or want of memory,
-    /// leaves the site as it was. A file is accepted exactly when it is the file of a lawful site.
+    /// leaves the site as it was. A file is accepted exactly when it is the file of a lawful site. Memory is wanted only for
+    /// the region loops of an accepted file.
     pub fn load(&mut self, heap: Global, file: &[u8]) -> Result<(), LoadFault>
         ensures loaded { Loaded (site file.now) self.old self.new result }
-        ensures accepted { AcceptedLoad file.now self.new result }
+        ensures accepted { Accepted file.now (leaving self.new result) }
+        ensures file { FileIsRead file.now (leaving self.new result) }
     {
         *self = Site::read(heap, file)?;
         Ok(())
