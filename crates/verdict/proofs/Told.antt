@@ -80,6 +80,6 @@ module _ (file : List ℕ) (bytes : Bytes file) (map : List ℕ) where
       go (Ok p) q = accepted p q (leb (joint_states p) 32768) refl
       go (Err e) q = λ p l f. absurd (never e p (sym q ∙ ap site f ∙ files_are_read p l))
 
-  pub made_told : (after : List ℕ) (r : Result Verdict AllocError) → Judged file map after r → IfOk r (Tells file (length map))
-  made_told after (Ok v) j = subst (Tells file (length map)) (sym j.0) told
-  made_told after (Err y) j = tt
+  pub made_told : (r : Result Verdict AllocError) → Judged file map r → IfOk r (Tells file (length map))
+  made_told (Ok v) j = subst (Tells file (length map)) (sym j) told
+  made_told (Err y) j = tt

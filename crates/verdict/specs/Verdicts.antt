@@ -5,6 +5,7 @@ use Rattle.site_read.specs.declared.fault.Fault.{Fault}
 use Rattle.site_read.specs.Faults.{report, told, refusal}
 use Rattle.site_read.specs.Format.{Places}
 use Rattle.site_read.specs.Sites.{site}
+use Rattle.site.specs.Loaded.{RegionLoopsRead}
 use Rattle.site.specs.Joint.{counted}
 use Rattle.site.specs.SiteTraffic.{site_meaning}
 use Rattle.game.specs.declared.solution.Refusal.{Refusal}
@@ -46,10 +47,15 @@ abbrev pub map_by : Result Places Fault → List ℕ → List ℕ
 map_by (Ok p) map = site_map p map
 map_by (Err e) map = map
 
--- the verdict on a file and the map afterwards; for want of memory there is no verdict, and the map is as it was
-abbrev pub Judged : List ℕ → List ℕ → List ℕ → Result Verdict AllocError → Type 0
-Judged file before after (Ok v) = (v ≡ verdict_by (site file) before) × (after ≡ map_by (site file) before)
-Judged file before after (Err _) = after ≡ before
+-- the verdict on a file, on this map; there may be none, for want of memory, only for an accepted file with a region loop
+abbrev pub Judged : List ℕ → List ℕ → Result Verdict AllocError → Type 0
+Judged file map (Ok v) = v ≡ verdict_by (site file) map
+Judged file map (Err _) = RegionLoopsRead (site file)
+
+-- the map afterwards; for want of memory it is as it was
+abbrev pub judged_map : List ℕ → List ℕ → Result Verdict AllocError → List ℕ
+judged_map file map (Ok v) = map_by (site file) map
+judged_map file map (Err _) = map
 
 abbrev pub lines : Verdict → List ℕ
 lines (Schedule n t) =

@@ -4,13 +4,12 @@
 ghost use Rattle.std.specs.Prelude.{◌≡◌, length, IfOk, Some};
 ghost use Rattle.site_read.specs.Faults.{told};
 ghost use Rattle.site.specs.Loaded.{site_places};
-ghost use Rattle.verdict.specs.Verdicts.{ruled, site_verdict, site_map, Judged, lines};
+ghost use Rattle.verdict.specs.Verdicts.{ruled, site_verdict, site_map, Judged, judged_map, lines};
 ghost use Rattle.verdict.specs.Tells.{Tells};
 ghost use Rattle.verdict.specs.declared.Verdict.TheVariants.{Refused};
 
 use game::solution::{Refusal, Tally};
 use keeper::arming::{Armed, synthesise};
-use loops::load_fault::LoadFault;
 use site::site::Site;
 use site::site::group::GroupFault;
 use site_read::fault::Report;
@@ -105,19 +104,23 @@ impl Verdict {
 
     // What the code makes of a file.
     fn judge(heap: Global, file: &[u8], map: &mut [u16]) -> Result<Verdict, AllocError>
-        ensures { Judged file.now map.old map.new result }
+        ensures value { Judged file.now map.old result }
+        ensures after { map.new ≡ judged_map file.now map.old result }
     {
-        let mut site = Site::new();
-        match site.load(heap, file) {
-            Ok(()) => Ok(Verdict::of_site(&site, map)),
-            Err(LoadFault::File(fault)) => Ok(Verdict::Refused(fault.into())),
-            Err(LoadFault::Memory) => Err(AllocError),
+        match Site::read(heap, file) {
+            Ok(site) => Ok(Verdict::of_site(&site, map)),
+            Err(fault) => {
+                let report = fault.report().ok_or(AllocError)?;
+                Ok(Verdict::Refused(report))
+            }
         }
     }
 
-    /// On a site file, with a map of marks to work on, which should have room for 32,768. An error is want of memory.
+    /// On a site file, with a map of marks to work on, which should have room for 32,768. An error is want of memory, which
+    /// comes only for an accepted file with a region loop.
     pub fn of(heap: Global, file: &[u8], map: &mut [u16]) -> Result<Verdict, AllocError>
-        ensures value { Judged file.now map.old map.new result }
+        ensures value { Judged file.now map.old result }
+        ensures after { map.new ≡ judged_map file.now map.old result }
         ensures tells { IfOk result (Tells file.now (length map.old)) }
     {
         Verdict::judge(heap, file, map)

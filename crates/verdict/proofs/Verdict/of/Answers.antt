@@ -4,4 +4,4 @@ use Rattle.verdict.proofs.Verdict.of.Goals as goal
 
 pub returns-clause-tells : goal.returns-clause-tells
 returns-clause-tells c =
-    made_told c.args.file.now (bytes_from c.args.file.now (λ i. (c.type_inv.file i).fits)) c.args.map.now _ c.judge.result c.judge.ensures
+    made_told c.args.file.now (bytes_from c.args.file.now (λ i. (c.type_inv.file i).fits)) c.args.map.now c.judge.result c.judge.ensures.value
