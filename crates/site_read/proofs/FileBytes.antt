@@ -13,11 +13,14 @@ use Rattle.site_read.proofs.Files.{at_most_one}
 byte_first : (b : ℕ) (bs : List ℕ) → b < 256 → Bytes bs → Bytes (b ∷ bs)
 byte_first b bs h k = and_from (ltb b 256) (every (λ b. ltb b 256) bs) (lt-ltb b 256 h) k
 
+pub every_both : {X : Type 0} (test : X → Bool) (xs ys : List X) → every test xs ≡ true → every test ys ≡ true → every test (xs ++ ys) ≡ true
+every_both test [] ys h k = k
+every_both test (x ∷ xs) ys h k =
+    let p = and_parts (test x) (every test xs) h in
+    and_from (test x) (every test (xs ++ ys)) p.0 (every_both test xs ys p.1 k)
+
 pub bytes_both : (xs ys : List ℕ) → Bytes xs → Bytes ys → Bytes (xs ++ ys)
-bytes_both [] ys h k = k
-bytes_both (x ∷ xs) ys h k =
-    let p = and_parts (ltb x 256) (every (λ b. ltb b 256) xs) h in
-    and_from (ltb x 256) (every (λ b. ltb b 256) (xs ++ ys)) p.0 (bytes_both xs ys p.1 k)
+bytes_both = every_both (λ b. ltb b 256)
 
 bytes_each : {X : Type 0} (enc : X → List ℕ) (test : X → Bool) → ((x : X) → test x ≡ true → Bytes (enc x)) → (xs : List X) → every test xs ≡ true → Bytes (flat_map enc xs)
 bytes_each enc test each [] h = refl

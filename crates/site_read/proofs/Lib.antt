@@ -12,6 +12,7 @@ mod Stops
 mod SitePlan
 mod SiteRun
 mod SiteFields
-mod SiteOpen
+mod SiteFillings
 mod FileBytes
-pub mod Told
+mod Reports
+pub mod SiteFaults

@@ -1,16 +1,25 @@
 -- A plan of reading: which field is due, which bytes may stand in it, and how it goes on with them. What a run of a plan
 -- answers, and which fields lead through it.
-use Rattle.std.proofs.Common.{◌≡◌, ℕ, zero, suc, ◌-◌, ◌<◌, Bool, true, false, cond, List, [], ◌∷◌, ◌++◌, length, Some, None, Ok, Err, Option, Result, refl, ap, ◌∙◌, arith}
+use Rattle.std.proofs.Common.{◌≡◌, ℕ, zero, suc, ◌+◌, ◌-◌, ◌<◌, Bool, true, false, cond, List, [], ◌∷◌, ◌++◌, length, Some, None, Ok, Err, Option, Result, refl, ap, ◌∙◌, arith}
 use Rattle.std.specs.Option.{option_map}
 use Rattle.site_read.specs.declared.fault.Fault.{Fault}
-use Rattle.site_read.specs.declared.fault.Fault.TheVariants.{Truncated}
+use Rattle.site_read.specs.declared.fault.Fault.TheVariants.{Truncated, Mark, Version, LoopCount, Kind, Number, Set}
 use Rattle.site_read.specs.Parse.{Parsed, then}
 use Rattle.site_read.specs.Format.{Bytes}
-use Rattle.site_read.specs.Beginnings.{What, mark, version, loops, kind, number, set, Field, field, fault_at}
+use Rattle.site_read.specs.Beginnings.{What, mark, version, loops, kind, number, set, Field, field, the_mark, alike}
 
 pub data Plan (X : Type 0) : Type 0 where
   done : X → Plan X
   due : What → ℕ → (List ℕ → Bool) → (List ℕ → Plan X) → Plan X
+
+-- the fault of a field that stands at `at` and holds `found`
+abbrev pub fault_at : What → ℕ → List ℕ → ℕ → Fault
+fault_at mark place found at = Mark (at + alike found the_mark)
+fault_at version place found at = Version
+fault_at loops place found at = LoopCount
+fault_at kind place found at = Kind place at
+fault_at number place found at = Number place at
+fault_at set place found at = Set place at
 
 -- one plan, and behind it another
 unfoldable pub bind : {X Y : Type 0} → Plan X → (X → Plan Y) → Plan Y
@@ -138,17 +147,17 @@ parted (due w q t k) f fs y l =
     }
 
 -- each field that is due can be filled
-abbrev pub Open : {X : Type 0} → Plan X → Type 0
-Open (done x) = Unit {0}
-Open (due w q t k) = ((b : List ℕ) × Fits w t b) × ((b : List ℕ) → Fits w t b → Open (k b))
+abbrev pub Fillable : {X : Type 0} → Plan X → Type 0
+Fillable (done x) = Unit {0}
+Fillable (due w q t k) = ((b : List ℕ) × Fits w t b) × ((b : List ℕ) → Fits w t b → Fillable (k b))
 
-pub open_bind : {X Y : Type 0} (p : Plan X) (f : X → Plan Y) → Open p → ((fs : List Field) (x : X) → Leads p fs x → Open (f x)) → Open (bind p f)
+pub fillable_bind : {X Y : Type 0} (p : Plan X) (f : X → Plan Y) → Fillable p → ((fs : List Field) (x : X) → Leads p fs x → Fillable (f x)) → Fillable (bind p f)
 unfolding bind
-open_bind (done x) f o h = h [] x (refl, refl)
-open_bind (due w q t k) f o h = (
+fillable_bind (done x) f o h = h [] x (refl, refl)
+fillable_bind (due w q t k) f o h = (
   o.0,
   λ b g.
-      open_bind (k b) f (o.1 b g) (λ fs x l.
+      fillable_bind (k b) f (o.1 b g) (λ fs x l.
       h (field w q b ∷ fs) x (record { found = b; fits = g; rest = fs; fields = refl; goes_on = l })),
 )
 
@@ -158,7 +167,7 @@ pub record Ends {X : Type 0} (p : Plan X) : Type 0 where
   pub fields : List Field
   pub leads : Leads p fields value
 
-pub completed : {X : Type 0} (p : Plan X) → Open p → Ends p
+pub completed : {X : Type 0} (p : Plan X) → Fillable p → Ends p
 completed (done x) o = record { value = x; fields = []; leads = (refl, refl) }
 completed (due w q t k) o =
     let r = completed (k o.0.0) (o.1 o.0.0 o.0.1) in

@@ -5,10 +5,10 @@ use Rattle.site_read.specs.declared.fault.Fault.{Fault}
 use Rattle.site_read.specs.declared.fault.Fault.TheVariants.{Truncated}
 use Rattle.site_read.specs.Format.{Bytes}
 use Rattle.site_read.specs.Tables.{every}
-use Rattle.site_read.specs.Beginnings.{What, Field, field, bytes_of, fault_at}
+use Rattle.site_read.specs.Beginnings.{What, Field, field, bytes_of}
 use Rattle.site_read.proofs.Sound.{never, same_ok}
 use Rattle.site_read.proofs.Encoded.{bytes_after}
-use Rattle.site_read.proofs.Plans.{Plan, done, due, width, cut, cut_full, cut_less, cut_some, cut_none, run, Fits, Leads}
+use Rattle.site_read.proofs.Plans.{fault_at, Plan, done, due, width, cut, cut_full, cut_less, cut_some, cut_none, run, Fits, Leads}
 
 pub same_front : (xs ys us vs : List ℕ) → length xs ≡ length ys → xs ++ us ≡ ys ++ vs → (xs ≡ ys) × (us ≡ vs)
 same_front [] [] us vs n e = (refl, e)

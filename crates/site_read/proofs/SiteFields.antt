@@ -1,5 +1,5 @@
 -- The fields that lead through the plan of a site file are those of the site's file.
-use Rattle.std.proofs.Common.{◌≡◌, ℕ, zero, suc, ◌+◌, ◌-◌, ◌*◌, ◌/◌, ◌%◌, ◌<◌, ◌≤◌, Bool, true, false, cond, ◌&&◌, eqb, ltb, leb, List, [], ◌∷◌, ◌++◌, length, map, Some, None, Option, sym, refl, ap, ◌∙◌, ap₂, append-nil, arith}
+use Rattle.std.proofs.Common.{◌≡◌, ℕ, zero, suc, ◌+◌, ◌-◌, ◌*◌, ◌/◌, ◌%◌, ◌<◌, ◌≤◌, Bool, true, false, cond, ◌&&◌, ◌||◌, eqb, ltb, leb, List, [], ◌∷◌, ◌++◌, length, map, Some, None, Option, sym, refl, ap, ◌∙◌, ap₂, append-nil, arith}
 use Rattle.std.specs.List.{flat_map}
 use Rattle.std.proofs.lemmas.Bool.{and_parts, eqb-true, leb-true, ltb-true}
 use Rattle.std.proofs.lemmas.List.Concat.{flat_map_single}
@@ -98,7 +98,7 @@ module _ (place : ℕ) where
       k : l.found ≡ one l.found ∷ []
       k = single l.found l.fits.full
 
-      go : (s : Bool) → eqb (one l.found) 1 ≡ s → Leads (table_of_kind place s) l.rest t → cond s true (eqb (one l.found) 2) ≡ true → fs ≡ table_fields place t
+      go : (s : Bool) → eqb (one l.found) 1 ≡ s → Leads (table_of_kind place s) l.rest t → (s || eqb (one l.found) 2) ≡ true → fs ≡ table_fields place t
       go true e g r =
           let a = parted (regions_plan place) _ l.rest t g in
           rw (← a.second.1)

@@ -1,5 +1,5 @@
 -- The plan of a site file. To run it is to read the site.
-use Rattle.std.proofs.Common.{◌≡◌, ℕ, zero, suc, ◌+◌, ◌-◌, ◌*◌, Bool, true, false, cond, ◌&&◌, eqb, leb, List, [], ◌∷◌, length, Some, None, Ok, Err, Option, refl}
+use Rattle.std.proofs.Common.{◌≡◌, ℕ, zero, suc, ◌+◌, ◌-◌, ◌*◌, Bool, true, false, cond, ◌&&◌, ◌||◌, eqb, leb, List, [], ◌∷◌, length, Some, None, Ok, Err, Option, refl}
 use Rattle.site_read.specs.declared.fault.Fault.TheVariants.{Kind}
 use Rattle.site_read.specs.declared.limits.Span.{Span}
 use Rattle.site_read.specs.Parse.{Parsed, then, many}
@@ -63,7 +63,7 @@ module _ (place : ℕ) where
   table_of_kind false = bind gaps_plan (λ g. done (by_contract g))
 
   abbrev pub table_plan : Plan Table
-  table_plan = due kind place (λ f. cond (eqb (one f) 1) true (eqb (one f) 2)) (λ f. table_of_kind (eqb (one f) 1))
+  table_plan = due kind place (λ f. eqb (one f) 1 || eqb (one f) 2) (λ f. table_of_kind (eqb (one f) 1))
 
   abbrev pub slot_plan : ℕ → Plan (Option Table)
   slot_plan count = cond (leb place count) (bind table_plan (λ t. done (Some t))) (done None)
@@ -128,7 +128,7 @@ module _ (place size : ℕ) where
   run_table [] = refl
   run_table (k ∷ bs) = go (eqb k 1) (eqb k 2)
     where
-      go : (s t : Bool) → cond (cond s true t) (run size (table_of_kind place s) bs) (Err (Kind place (size - length (k ∷ bs)))) ≡ cond s (then (regions place size bs) λ t. Ok (by_regions t.0, t.1)) (cond t (then (gaps place size bs) λ t. Ok (by_contract t.0, t.1)) (Err (Kind place (size - length (k ∷ bs)))))
+      go : (s t : Bool) → cond (s || t) (run size (table_of_kind place s) bs) (Err (Kind place (size - length (k ∷ bs)))) ≡ cond s (then (regions place size bs) λ t. Ok (by_regions t.0, t.1)) (cond t (then (gaps place size bs) λ t. Ok (by_contract t.0, t.1)) (Err (Kind place (size - length (k ∷ bs)))))
       go true t = follows size (regions_plan place) _ (regions place size bs) _ bs (run_regions bs) (λ rs rest. refl)
       go false true = follows size (gaps_plan place) _ (gaps place size bs) _ bs (run_gaps bs) (λ g rest. refl)
       go false false = refl

@@ -4,16 +4,16 @@ use Rattle.std.proofs.lemmas.Bool.{false≢true}
 use Rattle.site_read.specs.declared.fault.Fault.{Fault}
 use Rattle.site_read.specs.declared.fault.Fault.TheVariants.{Truncated}
 use Rattle.site_read.specs.Format.{Bytes}
-use Rattle.site_read.specs.Beginnings.{What, Field, field, bytes_of, fault_at}
+use Rattle.site_read.specs.Beginnings.{What, Field, field, bytes_of}
 use Rattle.site_read.proofs.Encoded.{bytes_after}
-use Rattle.site_read.proofs.Plans.{Plan, done, due, width, run, Fits, Leads, Open, completed}
+use Rattle.site_read.proofs.Plans.{fault_at, Plan, done, due, width, run, Fits, Leads, Fillable, completed}
 use Rattle.site_read.proofs.Runs.{same_front, fits_on, wrong_here, ends_here, Turn, ends, wrong, right, turn, Begins, DueIn, WrongIn, EndsIn, begins_behind, wrong_behind, ends_behind}
 
 abbrev StopsIn : {X : Type 0} → ℕ → Plan X → List ℕ → Fault → Type 0
 StopsIn size p bs e = WrongIn size p bs e ⊎ EndsIn size p bs e
 
 -- some field may stand where one is due
-filled : {X : Type 0} (w : What) (q : ℕ) (t : List ℕ → Bool) (k : List ℕ → Plan X) (b : List ℕ) → Fits w t b → Open (k b) → DueIn (due w q t k) [] (field w q b)
+filled : {X : Type 0} (w : What) (q : ℕ) (t : List ℕ → Bool) (k : List ℕ → Plan X) (b : List ℕ) → Fits w t b → Fillable (k b) → DueIn (due w q t k) [] (field w q b)
 filled w q t k b f o =
     let c = completed (k b) o in
     record {
@@ -22,7 +22,7 @@ filled w q t k b f o =
       leads = record { found = b; fits = f; rest = c.fields; fields = refl; goes_on = c.leads };
     }
 
-pub stops : {X : Type 0} (size : ℕ) (p : Plan X) → Open p → (bs : List ℕ) → Bytes bs → (e : Fault) → run size p bs ≡ Err e → StopsIn size p bs e
+pub stops : {X : Type 0} (size : ℕ) (p : Plan X) → Fillable p → (bs : List ℕ) → Bytes bs → (e : Fault) → run size p bs ≡ Err e → StopsIn size p bs e
 stops size (done y) o bs h e r = absurd (cc)
 stops {X} size (due w q t k) o bs h e r = go (turn w t bs h) (λ found rest f. stops size (k found) (o.1 found f) rest)
   where
@@ -74,7 +74,7 @@ ends_at size (due w q t k) (b ∷ before) next after x l found h =
     (fits_on w q t k size l.found (bytes_of before ++ found) l.fits
     ∙ ends_at size (k l.found) before next after x (subst (λ (fs : List Field). Leads (k l.found) fs x) (sym e) l.goes_on) found h)
 
-pub wrong_at : {X : Type 0} (size : ℕ) (p : Plan X) → Open p → (before : List Field) (next : Field) (after : List Field) (x : X) → Leads p (before ++ (next ∷ after)) x → (found rest : List ℕ) → Bytes found → length found ≡ length next.bytes → (Begins p (bytes_of before ++ found) → ⊥) → run size p (bytes_of before ++ (found ++ rest)) ≡ Err (fault_at next.what next.place found (size - length (found ++ rest)))
+pub wrong_at : {X : Type 0} (size : ℕ) (p : Plan X) → Fillable p → (before : List Field) (next : Field) (after : List Field) (x : X) → Leads p (before ++ (next ∷ after)) x → (found rest : List ℕ) → Bytes found → length found ≡ length next.bytes → (Begins p (bytes_of before ++ found) → ⊥) → run size p (bytes_of before ++ (found ++ rest)) ≡ Err (fault_at next.what next.place found (size - length (found ++ rest)))
 wrong_at size (done y) o before next after x l found rest h n none = absurd (not_none before next after l.0)
 wrong_at size (due w q t k) o [] next after x l found rest h n none =
     let d : next ≡ field w q l.found = cc (l.fields) in

@@ -1,5 +1,5 @@
 -- Loading the records of a file gives the tables of the file.
-use Rattle.std.proofs.Common.{◌≡◌, ℕ, suc, ◌-◌, ◌<◌, Bool, true, false, cond, ltb, leb, List, [], ◌∷◌, ◌++◌, length, get_or, take, Some, None, Ok, Err, Option, Result, sym, refl, ap, ◌∙◌, append-nil, arith}
+use Rattle.std.proofs.Common.{◌≡◌, ℕ, suc, ◌-◌, ◌<◌, Bool, true, false, cond, ltb, leb, List, [], ◌∷◌, ◌++◌, ◌↔◌, length, get_or, take, Some, None, Ok, Err, Option, Result, sym, refl, ap, ◌∙◌, append-nil, arith}
 use Rattle.std.specs.List.{flat_map}
 use Rattle.std.proofs.lemmas.List.{take_at, length-append}
 use Rattle.std.proofs.lemmas.Bool.{and_from, lt-ltb}
@@ -11,8 +11,8 @@ use Rattle.site_read.specs.Tables.{Table, by_regions, by_contract, every, Lawful
 use Rattle.site_read.specs.Fields.{regions, table}
 use Rattle.site_read.specs.Format.{encode, encode_row, Bytes, Places}
 use Rattle.site_read.specs.Sites.{piece_table, slot_table, file_tables, site}
-use Rattle.site_read.specs.Records.{Piece, Pieces, piece, before, slot}
-use Rattle.site_read.proofs.Sound.{table_lawful}
+use Rattle.site_read.specs.Records.{Piece, Pieces, piece, before, slot, pieces}
+use Rattle.site_read.proofs.Sound.{never, table_lawful}
 use Rattle.site_read.proofs.Decoded.{gaps_back, regions_back}
 use Rattle.site_read.proofs.Encoded.{encodes, bytes_after}
 use Rattle.site_read.proofs.Headers.{header_exact}
@@ -80,6 +80,41 @@ whole file h = go (header file) refl
         then_assoc (slot (length file) x.0 4 r₃) _ (loads (length file))
         ∙ slot_step 4 (length file) x.0 _ _ r₃ b₃ (λ p₄ t₄ r₄ e₄ b₄.
         last_step (leb 1 (length r₄)) (length file) p₁ p₂ p₃ p₄ t₁ t₂ t₃ t₄ (Trailing (length file - length r₄)) e₁ e₂ e₃ e₄)))))
+
+-- the last check, by what it refuses
+last_fault : {X Y : Type 0} (b : Bool) (x : X) (y : Y) (e : Fault) → then {Y = Unit {0}} (cond b (Err e) (Ok x)) (λ _. Ok tt) ≡ then {Y = Unit {0}} (cond b (Err e) (Ok y)) (λ _. Ok tt)
+last_fault true x y e = refl
+last_fault false x y e = refl
+
+-- the records are refused as the tables are
+whole_fault : (file : List ℕ) → Bytes file → then {Y = Unit {0}} (pieces file) (λ _. Ok tt) ≡ then {Y = Unit {0}} (site file) (λ _. Ok tt)
+whole_fault file h = go (header file) refl
+  where
+    step : {X Y : Type 0} (place count : ℕ) (bs : List ℕ) (f : Option Piece × List ℕ → Result X Fault) (g : Option Table × List ℕ → Result Y Fault) → Bytes bs → ((p : Option Piece) (t : Option Table) (r : List ℕ) → Bytes r → then {Y = Unit {0}} (f (p, r)) (λ _. Ok tt) ≡ then {Y = Unit {0}} (g (t, r)) (λ _. Ok tt)) → then {Y = Unit {0}} (then (slot (length file) count place bs) f) (λ _. Ok tt) ≡ then {Y = Unit {0}} (then (slot_table (length file) count place bs) g) (λ _. Ok tt)
+    step place count bs f g b k =
+        then_assoc (slot (length file) count place bs) f (λ _. Ok tt)
+        ∙ slot_step place (length file) count _ _ bs b (λ p t r _ c. k p t r c)
+        ∙ sym (then_assoc (slot_table (length file) count place bs) g (λ _. Ok tt))
+
+    go : (r : Parsed ℕ) → header file ≡ r → then {Y = Unit {0}} (pieces file) (λ _. Ok tt) ≡ then {Y = Unit {0}} (site file) (λ _. Ok tt)
+    go (Err e) q = rw q refl
+    go (Ok x) q =
+        rw q
+        (step 1 x.0 x.1 _ _ (header_exact file h x q).bytes (λ p₁ t₁ r₁ b₁.
+        step 2 x.0 r₁ _ _ b₁ (λ p₂ t₂ r₂ b₂.
+        step 3 x.0 r₂ _ _ b₂ (λ p₃ t₃ r₃ b₃.
+        step 4 x.0 r₃ _ _ b₃ (λ p₄ t₄ r₄ b₄.
+        last_fault (leb 1 (length r₄)) _ _ (Trailing (length file - length r₄)))))))
+
+same_fault : {X Y : Type 0} (r : Result X Fault) (s : Result Y Fault) → then {Y = Unit {0}} r (λ _. Ok tt) ≡ then {Y = Unit {0}} s (λ _. Ok tt) → (e : Fault) → r ≡ Err e → s ≡ Err e
+same_fault (Ok x) s h e q = never e x (sym q)
+same_fault (Err d) (Ok y) h e q = absurd (cc)
+same_fault (Err d) (Err f) h e q = let a : f ≡ e = cc in ap (λ (e : Fault). Err e) a
+
+pub records_fault : (file : List ℕ) → Bytes file → (e : Fault) → (pieces file ≡ Err e) ↔ (site file ≡ Err e)
+records_fault file h e =
+    let w = whole_fault file h in
+    (same_fault (pieces file) (site file) w e, same_fault (site file) (pieces file) (sym w) e)
 
 -- a slice of bytes
 pub bytes_from : (bs : List ℕ) → ((i : ℕ) → get_or bs i 0 < 256) → Bytes bs

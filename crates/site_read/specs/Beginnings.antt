@@ -1,15 +1,16 @@
--- What is wrong with a file, said of the files that there are: where its bytes stop being the beginning of one. No reader
--- and no place in a reading.
+-- What is wrong with a file, said of the files of lawful sites: it goes on as none of them does, it ends too early to be
+-- one, or it goes on behind one. No reader, and no place that a reader has come to.
 use Rattle.std.specs.Prelude.{◌≡◌, ℕ, suc, ◌+◌, ◌<◌, ◌≤◌, cond, ◌⊎◌, ◌↔◌, List, [], ◌∷◌, ◌++◌, length, map, Some, None, Err, Option, ◌==◌}
 use Rattle.std.specs.List.{flat_map}
 use Rattle.site_read.specs.declared.fault.Fault.{Fault}
-use Rattle.site_read.specs.declared.fault.Fault.TheVariants.{Truncated, Mark, Version, LoopCount, Kind, Number, Set, Trailing}
 use Rattle.site_read.specs.declared.kind.Kind.TheVariants.{Region, Contract}
+use Rattle.site_read.specs.Faults.{told, report}
 use Rattle.site_read.specs.Kinds.{kind_byte}
 use Rattle.site_read.specs.Tables.{Row, Table, by_regions, by_contract}
 use Rattle.site_read.specs.Format.{Bytes, word, Places, LawfulSite, loop_count, file_of}
 use Rattle.site_read.specs.Sites.{site}
 
+-- what a field is
 pub data What : Type 0 where
   mark : What
   version : What
@@ -18,7 +19,7 @@ pub data What : Type 0 where
   number : What
   set : What
 
--- a field of a file: what it is, the loop whose record it is in (0 in the header), and its bytes
+-- a field of a file; its place is the loop whose record it is in, and 0 in the header
 pub record Field : Type 0 where
   pub what : What
   pub place : ℕ
@@ -81,14 +82,19 @@ alike [] ys = 0
 alike (x ∷ xs) [] = 0
 alike (x ∷ xs) (y ∷ ys) = cond (x == y) (suc (alike xs ys)) 0
 
--- what is wrong with a field that stands at `at` and holds `found`: with the mark, its first wrong byte
-abbrev pub fault_at : What → ℕ → List ℕ → ℕ → Fault
-fault_at mark place found at = Mark (at + alike found the_mark)
-fault_at version place found at = Version
-fault_at loops place found at = LoopCount
-fault_at kind place found at = Kind place at
-fault_at number place found at = Number place at
-fault_at set place found at = Set place at
+-- the number of a fault by the field that has it
+abbrev pub number_of : What → ℕ
+number_of mark = 2
+number_of version = 3
+number_of loops = 4
+number_of kind = 5
+number_of number = 6
+number_of set = 7
+
+-- which byte of a field is told: of the mark the first wrong one, of another field the first
+abbrev pub wrong_byte : What → List ℕ → ℕ
+wrong_byte mark found = alike found the_mark
+wrong_byte _ found = 0
 
 -- a field is due and there in full, and with it the bytes begin no file
 pub record WrongField (file : List ℕ) (e : Fault) : Type 0 where
@@ -100,7 +106,7 @@ pub record WrongField (file : List ℕ) (e : Fault) : Type 0 where
   pub rest : List ℕ
   pub parts : file ≡ bytes_of before ++ (found ++ rest)
   pub wrong : BeginsFile (bytes_of before ++ found) → ⊥
-  pub told : e ≡ fault_at due.what due.place found (length (bytes_of before))
+  pub tells : report e ≡ told (number_of due.what) due.place (length (bytes_of before) + wrong_byte due.what found)
 
 -- a field is due, and the file ends before it or inside it
 pub record EndsEarly (file : List ℕ) (e : Fault) : Type 0 where
@@ -110,7 +116,7 @@ pub record EndsEarly (file : List ℕ) (e : Fault) : Type 0 where
   pub found : List ℕ
   pub short : length found < length due.bytes
   pub parts : file ≡ bytes_of before ++ found
-  pub told : e ≡ Truncated due.place (length file)
+  pub tells : report e ≡ told 1 due.place (length file)
 
 -- bytes follow the file of a lawful site
 pub record BytesBehind (file : List ℕ) (e : Fault) : Type 0 where
@@ -119,11 +125,11 @@ pub record BytesBehind (file : List ℕ) (e : Fault) : Type 0 where
   pub rest : List ℕ
   pub some : 1 ≤ length rest
   pub parts : file ≡ file_of site ++ rest
-  pub told : e ≡ Trailing (length (file_of site))
+  pub tells : report e ≡ told 8 0 (length (file_of site))
 
 abbrev pub FaultIn : List ℕ → Fault → Type 0
 FaultIn file e = WrongField file e ⊎ (EndsEarly file e ⊎ BytesBehind file e)
 
--- the reader tells a file's fault, and no other
+-- the reader tells a file's fault, and no other: a file that has none is accepted, and no file has two
 abbrev pub FaultsAreTold : Type 0
 FaultsAreTold = (file : List ℕ) → Bytes file → (e : Fault) → (site file ≡ Err e) ↔ FaultIn file e

@@ -1,23 +1,28 @@
 -- The fault that the reader tells is the file's.
-use Rattle.std.proofs.Common.{◌≡◌, ℕ, ◌-◌, ◌≤◌, inl, inr, List, [], ◌∷◌, ◌++◌, length, Ok, Err, sym, refl, ap, ◌∙◌, subst, append-nil, arith}
+use Rattle.std.proofs.Common.{◌≡◌, ℕ, ◌-◌, ◌≤◌, inl, inr, ◌↔◌, List, [], ◌∷◌, ◌++◌, length, Ok, Err, Result, sym, refl, ap, ◌∙◌, subst, append-nil, arith}
 use Rattle.std.proofs.lemmas.Bool.{le-leb}
 use Rattle.std.proofs.lemmas.List.{length-append}
 use Rattle.site_read.specs.declared.fault.Fault.{Fault}
-use Rattle.site_read.specs.declared.fault.Fault.TheVariants.{Trailing}
+use Rattle.site_read.specs.declared.fault.Fault.TheVariants.{Truncated, Trailing}
 use Rattle.site_read.specs.Parse.{Parsed, then}
+use Rattle.site_read.specs.Faults.{report}
 use Rattle.site_read.specs.Format.{Bytes, Places, LawfulSite, loop_count, file_of}
+use Rattle.site_read.specs.declared.records.Records.{Records}
+use Rattle.site_read.specs.Records.{pieces, pieces_of, seen_pieces}
 use Rattle.site_read.specs.Sites.{site}
-use Rattle.site_read.specs.Beginnings.{Field, bytes_of, fields_of, BeginsFile, Due, fault_at, WrongField, EndsEarly, BytesBehind, FaultIn, FaultsAreTold}
+use Rattle.site_read.specs.Beginnings.{Field, bytes_of, fields_of, BeginsFile, Due, WrongField, EndsEarly, BytesBehind, FaultIn, FaultsAreTold}
 use Rattle.site_read.proofs.Sound.{never, same_ok, then_ok}
 use Rattle.site_read.proofs.Encoded.{bytes_after}
 use Rattle.site_read.proofs.Files.{files_are_read, only_files_are_read}
-use Rattle.site_read.proofs.Plans.{Plan, done, due, run, Leads}
+use Rattle.site_read.proofs.Whole.{records_fault}
+use Rattle.site_read.proofs.Plans.{fault_at, Plan, done, due, run, Leads}
 use Rattle.site_read.proofs.Runs.{bytes_before, reads, read_as, Begins, DueIn}
 use Rattle.site_read.proofs.Stops.{stops, ends_at, wrong_at}
 use Rattle.site_read.proofs.SitePlan.{site_plan}
 use Rattle.site_read.proofs.SiteRun.{finish, run_site}
 use Rattle.site_read.proofs.SiteFields.{fields_with, site_leads}
-use Rattle.site_read.proofs.SiteOpen.{open_site}
+use Rattle.site_read.proofs.SiteFillings.{fillable_site}
+use Rattle.site_read.proofs.Reports.{same_report, due_report}
 use Rattle.site_read.proofs.FileBytes.{bytes_both, file_bytes, file_fields}
 
 -- a run that ended well with nothing behind
@@ -85,7 +90,7 @@ behind file e p (b ∷ bs) l s r =
     let some : 1 ≤ length (b ∷ bs) = omega arith in
     let t = rw (le-leb 1 (length (b ∷ bs)) some) at r in
     let told : e ≡ Trailing (length file - length (b ∷ bs)) = cc in
-    record { site = p; lawful = l; rest = b ∷ bs; some = some; parts = s; told = told ∙ ap (λ (n : ℕ). Trailing n) (stands (file_of p) (b ∷ bs) file s) }
+    record { site = p; lawful = l; rest = b ∷ bs; some = some; parts = s; tells = ap report (told ∙ ap (λ (n : ℕ). Trailing n) (stands (file_of p) (b ∷ bs) file s)) }
 
 is_fault : (file : List ℕ) → Bytes file → (e : Fault) → site file ≡ Err e → FaultIn file e
 is_fault file h e r = go (run (length file) site_plan file) refl
@@ -94,7 +99,7 @@ is_fault file h e r = go (run (length file) site_plan file) refl
     go (Err d) q =
         let r' = sym r ∙ sym (run_site file) ∙ ap (λ (a : Parsed Places). then a (finish (length file))) q in
         let same : d ≡ e = cc in
-        elim (stops (length file) site_plan open_site file h e (q ∙ ap (λ (d : Fault). Err d) same)) [
+        elim (stops (length file) site_plan fillable_site file h e (q ∙ ap (λ (d : Fault). Err d) same)) [
           | inl a ↦ inl (record {
             before = a.before;
             due = a.next;
@@ -104,7 +109,8 @@ is_fault file h e r = go (run (length file) site_plan file) refl
             rest = a.rest;
             parts = a.parts;
             wrong = λ b. a.wrong (begins_in (bytes_of a.before ++ a.found) b);
-            told = a.told ∙ ap (fault_at a.next.what a.next.place a.found) (stands (bytes_of a.before) (a.found ++ a.rest) file a.parts);
+            tells = ap report (a.told ∙ ap (fault_at a.next.what a.next.place a.found) (stands (bytes_of a.before) (a.found ++ a.rest) file a.parts))
+                ∙ due_report a.before a.next (due_file a.before a.next a.is_due) a.found;
           })
           | inr a ↦ inr (inl (record {
             before = a.before;
@@ -113,7 +119,7 @@ is_fault file h e r = go (run (length file) site_plan file) refl
             found = a.found;
             short = a.short;
             parts = a.parts;
-            told = a.told;
+            tells = ap report a.told;
           }))
         ]
     go (Ok x) q =
@@ -131,8 +137,9 @@ wrong_is file h e w =
     let front = bytes_of w.before in
     let l = due_leads w.before w.due w.is_due in
     let b : Bytes w.found = bytes_before w.found w.rest (bytes_after front (w.found ++ w.rest) (rw w.parts at h)) in
-    let r = wrong_at size site_plan open_site w.before w.due w.is_due.after w.is_due.site l w.found w.rest b w.full (λ b. w.wrong (begins_file (front ++ w.found) b)) in
-    let told = ap (fault_at w.due.what w.due.place w.found) (stands front (w.found ++ w.rest) file w.parts) ∙ sym w.told in
+    let r = wrong_at size site_plan fillable_site w.before w.due w.is_due.after w.is_due.site l w.found w.rest b w.full (λ b. w.wrong (begins_file (front ++ w.found) b)) in
+    let told = ap (fault_at w.due.what w.due.place w.found) (stands front (w.found ++ w.rest) file w.parts)
+    ∙ same_report (fault_at w.due.what w.due.place w.found (length front)) e (due_report w.before w.due w.is_due w.found ∙ sym w.tells) in
     stopped file e (ap (run size site_plan) w.parts ∙ r ∙ ap (λ (e : Fault). Err e) told)
 
 early_is : (file : List ℕ) (e : Fault) → EndsEarly file e → site file ≡ Err e
@@ -140,7 +147,7 @@ early_is file e w =
     let size : ℕ = length file in
     let l = due_leads w.before w.due w.is_due in
     let r = ends_at size site_plan w.before w.due w.is_due.after w.is_due.site l w.found w.short in
-    stopped file e (ap (run size site_plan) w.parts ∙ r ∙ ap (λ (e : Fault). Err e) (sym w.told))
+    stopped file e (ap (run size site_plan) w.parts ∙ r ∙ ap (λ (e : Fault). Err e) (same_report (Truncated w.due.place size) e (sym w.tells)))
 
 behind_is : (file : List ℕ) (e : Fault) → BytesBehind file e → site file ≡ Err e
 behind_is file e w =
@@ -148,10 +155,21 @@ behind_is file e w =
     let s : file ≡ bytes_of (fields_of w.site) ++ w.rest = w.parts ∙ ap (λ (l : List ℕ). l ++ w.rest) (file_fields w.site) in
     let r = ap (run size site_plan) s ∙ reads size site_plan (fields_of w.site) w.site w.rest (leads_of w.site w.lawful) in
     sym (run_site file) ∙ ap (λ (a : Parsed Places). then a (finish size)) r
-    ∙ rw (le-leb 1 (length w.rest) w.some) (ap (λ (n : ℕ). Err (Trailing n)) (stands (file_of w.site) w.rest file w.parts) ∙ ap (λ (e : Fault). Err e) (sym w.told))
+    ∙ rw (le-leb 1 (length w.rest) w.some) (ap (λ (n : ℕ). Err (Trailing n)) (stands (file_of w.site) w.rest file w.parts) ∙ ap (λ (e : Fault). Err e) (same_report (Trailing (length (file_of w.site))) e (sym w.tells)))
 
 pub faults_are_told : FaultsAreTold
 faults_are_told file h e = (
   is_fault file h e,
   λ f. elim f [ inl a ↦ wrong_is file h e a | inr g ↦ elim g [ inl a ↦ early_is file e a | inr a ↦ behind_is file e a ] ],
 )
+
+-- the code's answer has the file's fault
+pub records_told : (file : List ℕ) → Bytes file → (r : Result Records Fault) → seen_pieces r ≡ pieces file → (e : Fault) → (r ≡ Err e) ↔ FaultIn file e
+records_told file h (Ok x) s e =
+    let p = records_fault file h e in
+    let f = faults_are_told file h e in
+    (λ q. never e x (sym q), λ w. never e (pieces_of x) (sym (p.1 (f.1 w)) ∙ sym s))
+records_told file h (Err d) s e =
+    let p = records_fault file h e in
+    let f = faults_are_told file h e in
+    (λ q. let d-is : d ≡ e = cc in f.0 (p.0 (sym s ∙ ap (λ (e : Fault). Err e) d-is)), λ w. let q = s ∙ p.1 (f.1 w) in let d-is : d ≡ e = cc in ap (λ (e : Fault). Err e) d-is)
