@@ -68,7 +68,7 @@ falling (Some t) (Some u) h = omega arith
 falling None None h = omega arith
 falling None (Some t) h = absurd (false≢true h)
 
-at_most_one : (p : Option Table) → held p ≤ 1
+pub at_most_one : (p : Option Table) → held p ≤ 1
 at_most_one None = omega arith
 at_most_one (Some t) = omega arith
 

@@ -1,5 +1,5 @@
 -- Loading the records of a file gives the tables of the file.
-use Rattle.std.proofs.Common.{◌≡◌, ℕ, suc, ◌-◌, ◌<◌, Bool, true, false, cond, ltb, leb, List, [], ◌∷◌, ◌++◌, length, get_or, take, Some, None, Ok, Err, Option, Result, sym, refl, ap, ◌∙◌, append-nil, arith}
+use Rattle.std.proofs.Common.{◌≡◌, ℕ, suc, ◌-◌, ◌<◌, Bool, true, false, cond, ltb, leb, List, [], ◌∷◌, ◌++◌, ◌↔◌, length, get_or, take, Some, None, Ok, Err, Option, Result, sym, refl, ap, ◌∙◌, append-nil, arith}
 use Rattle.std.specs.List.{flat_map}
 use Rattle.std.proofs.lemmas.List.{take_at, length-append}
 use Rattle.std.proofs.lemmas.Bool.{and_from, lt-ltb}
@@ -11,7 +11,7 @@ use Rattle.site_read.specs.Tables.{Table, by_regions, by_contract, every, Lawful
 use Rattle.site_read.specs.Fields.{regions, table}
 use Rattle.site_read.specs.Format.{encode, encode_row, Bytes, Places}
 use Rattle.site_read.specs.Sites.{piece_table, slot_table, file_tables, site}
-use Rattle.site_read.specs.Records.{Piece, Pieces, pieces, piece, before, slot}
+use Rattle.site_read.specs.Records.{Piece, Pieces, piece, before, slot, pieces}
 use Rattle.site_read.proofs.Sound.{never, table_lawful}
 use Rattle.site_read.proofs.Decoded.{gaps_back, regions_back}
 use Rattle.site_read.proofs.Encoded.{encodes, bytes_after}
@@ -81,39 +81,48 @@ whole file h = go (header file) refl
         ∙ slot_step 4 (length file) x.0 _ _ r₃ b₃ (λ p₄ t₄ r₄ e₄ b₄.
         last_step (leb 1 (length r₄)) (length file) p₁ p₂ p₃ p₄ t₁ t₂ t₃ t₄ (Trailing (length file - length r₄)) e₁ e₂ e₃ e₄)))))
 
--- the records and the tables of a file come to the same end
-alike_end : (b : Bool) (p : Pieces) (t : Places) (e : Fault) → then {X = Pieces} {Y = Unit {0}} (cond b (Err e) (Ok p)) (λ _. Ok tt) ≡ then {X = Places} (cond b (Err e) (Ok t)) (λ _. Ok tt)
-alike_end true p t e = refl
-alike_end false p t e = refl
+-- the last check, by what it refuses
+last_fault : {X Y : Type 0} (b : Bool) (x : X) (y : Y) (e : Fault) → then {Y = Unit {0}} (cond b (Err e) (Ok x)) (λ _. Ok tt) ≡ then {Y = Unit {0}} (cond b (Err e) (Ok y)) (λ _. Ok tt)
+last_fault true x y e = refl
+last_fault false x y e = refl
 
-same_end : (file : List ℕ) → Bytes file → then {Y = Unit {0}} (pieces file) (λ _. Ok tt) ≡ then (site file) (λ _. Ok tt)
-same_end file h = go (header file) refl
+-- the records are refused as the tables are
+whole_fault : (file : List ℕ) → Bytes file → then {Y = Unit {0}} (pieces file) (λ _. Ok tt) ≡ then {Y = Unit {0}} (site file) (λ _. Ok tt)
+whole_fault file h = go (header file) refl
   where
-    go : (r : Parsed ℕ) → header file ≡ r → then {Y = Unit {0}} (pieces file) (λ _. Ok tt) ≡ then (site file) (λ _. Ok tt)
+    step : {X Y : Type 0} (place count : ℕ) (bs : List ℕ) (f : Option Piece × List ℕ → Result X Fault) (g : Option Table × List ℕ → Result Y Fault) → Bytes bs → ((p : Option Piece) (t : Option Table) (r : List ℕ) → Bytes r → then {Y = Unit {0}} (f (p, r)) (λ _. Ok tt) ≡ then {Y = Unit {0}} (g (t, r)) (λ _. Ok tt)) → then {Y = Unit {0}} (then (slot (length file) count place bs) f) (λ _. Ok tt) ≡ then {Y = Unit {0}} (then (slot_table (length file) count place bs) g) (λ _. Ok tt)
+    step place count bs f g b k =
+        then_assoc (slot (length file) count place bs) f (λ _. Ok tt)
+        ∙ slot_step place (length file) count _ _ bs b (λ p t r _ c. k p t r c)
+        ∙ sym (then_assoc (slot_table (length file) count place bs) g (λ _. Ok tt))
+
+    go : (r : Parsed ℕ) → header file ≡ r → then {Y = Unit {0}} (pieces file) (λ _. Ok tt) ≡ then {Y = Unit {0}} (site file) (λ _. Ok tt)
     go (Err e) q = rw q refl
     go (Ok x) q =
         rw q
-        (then_assoc (slot (length file) x.0 1 x.1) _ (λ _. Ok tt)
-        ∙ slot_step 1 (length file) x.0 _ _ x.1 (header_exact file h x q).bytes (λ p₁ t₁ r₁ e₁ b₁.
-        then_assoc (slot (length file) x.0 2 r₁) _ (λ _. Ok tt)
-        ∙ slot_step 2 (length file) x.0 _ _ r₁ b₁ (λ p₂ t₂ r₂ e₂ b₂.
-        then_assoc (slot (length file) x.0 3 r₂) _ (λ _. Ok tt)
-        ∙ slot_step 3 (length file) x.0 _ _ r₂ b₂ (λ p₃ t₃ r₃ e₃ b₃.
-        then_assoc (slot (length file) x.0 4 r₃) _ (λ _. Ok tt)
-        ∙ slot_step 4 (length file) x.0 _ _ r₃ b₃ (λ p₄ t₄ r₄ e₄ b₄.
-        alike_end (leb 1 (length r₄)) (record { first = p₁; second = p₂; third = p₃; fourth = p₄ }) (record { first = t₁; second = t₂; third = t₃; fourth = t₄ }) (Trailing (length file - length r₄)))
-        ∙ sym (then_assoc (slot_table (length file) x.0 4 r₃) _ (λ _. Ok tt)))
-        ∙ sym (then_assoc (slot_table (length file) x.0 3 r₂) _ (λ _. Ok tt)))
-        ∙ sym (then_assoc (slot_table (length file) x.0 2 r₁) _ (λ _. Ok tt)))
-        ∙ sym (then_assoc (slot_table (length file) x.0 1 x.1) _ (λ _. Ok tt)))
+        (step 1 x.0 x.1 _ _ (header_exact file h x q).bytes (λ p₁ t₁ r₁ b₁.
+        step 2 x.0 r₁ _ _ b₁ (λ p₂ t₂ r₂ b₂.
+        step 3 x.0 r₂ _ _ b₂ (λ p₃ t₃ r₃ b₃.
+        step 4 x.0 r₃ _ _ b₃ (λ p₄ t₄ r₄ b₄.
+        last_fault (leb 1 (length r₄)) _ _ (Trailing (length file - length r₄)))))))
+
+same_fault : {X Y : Type 0} (r : Result X Fault) (s : Result Y Fault) → then {Y = Unit {0}} r (λ _. Ok tt) ≡ then {Y = Unit {0}} s (λ _. Ok tt) → (e : Fault) → r ≡ Err e → s ≡ Err e
+same_fault (Ok x) s h e q = never e x (sym q)
+same_fault (Err d) (Ok y) h e q = absurd (cc)
+same_fault (Err d) (Err f) h e q = let a : f ≡ e = cc in ap (λ (e : Fault). Err e) a
+
+pub records_fault : (file : List ℕ) → Bytes file → (e : Fault) → (pieces file ≡ Err e) ↔ (site file ≡ Err e)
+records_fault file h e =
+    let w = whole_fault file h in
+    (same_fault (pieces file) (site file) w e, same_fault (site file) (pieces file) (sym w) e)
 
 -- a file whose records are found is accepted
 pub records_accepted : (file : List ℕ) → Bytes file → (p : Pieces) → pieces file ≡ Ok p → (q : Places) × (site file ≡ Ok q)
-records_accepted file h p e = go (site file) (sym (same_end file h) ∙ ap (λ r. then r (λ _. Ok tt)) e)
+records_accepted file h p e = go (site file) (records_fault file h)
   where
-    go : (r : Result Places Fault) → then {Y = Unit {0}} r (λ _. Ok tt) ≡ Ok tt → (q : Places) × (r ≡ Ok q)
-    go (Ok q) z = (q, refl)
-    go (Err y) z = never y tt z
+    go : (r : Result Places Fault) → ((y : Fault) → (pieces file ≡ Err y) ↔ (r ≡ Err y)) → (q : Places) × (r ≡ Ok q)
+    go (Ok q) w = (q, refl)
+    go (Err y) w = never y p (sym ((w y).1 refl) ∙ e)
 
 -- a slice of bytes
 pub bytes_from : (bs : List ℕ) → ((i : ℕ) → get_or bs i 0 < 256) → Bytes bs

@@ -7,3 +7,4 @@ pub mod Fields
 pub mod Format
 pub mod Records
 pub mod Sites
+pub mod Beginnings

@@ -1,6 +1,8 @@
 //! The records of a file, each lent from it.
-ghost use Rattle.std.specs.Prelude.{◌≡◌, ◌-◌, length};
+ghost use Rattle.std.specs.Prelude.{◌≡◌, ◌-◌, ◌↔◌, length};
+ghost use Rattle.site_read.specs.declared.fault.Fault.{Fault as FaultOf};
 ghost use Rattle.site_read.specs.Records.{before, record_of, seen_record, slot as slot_of, seen_slot, pieces, seen_pieces};
+ghost use Rattle.site_read.specs.Beginnings.{FaultIn};
 
 use crate::fault::Fault;
 use crate::field::RecordReader;
@@ -78,8 +80,9 @@ impl RecordReader {
     }
 }
 
-/// The records of a whole file.
-pub fn read_records(file: &[u8]) -> Result<Records<'_>, Fault>
+// The records behind the header, and nothing behind them.
+// Apart from read_records, so that its seven exits speak of the records, and read_records brings the one result to the faults.
+fn split_records(file: &[u8]) -> Result<Records<'_>, Fault>
     ensures { seen_pieces result ≡ pieces file.now }
 {
     let size = file.len();
@@ -99,4 +102,12 @@ pub fn read_records(file: &[u8]) -> Result<Records<'_>, Fault>
         third,
         fourth,
     })
+}
+
+/// The records of a whole file, or its fault. A file that has no fault is accepted.
+pub fn read_records(file: &[u8]) -> Result<Records<'_>, Fault>
+    ensures parsed { seen_pieces result ≡ pieces file.now }
+    ensures faults { (fault : FaultOf) → (result ≡ Err fault) ↔ FaultIn file.now fault }
+{
+    split_records(file)
 }
