@@ -5,7 +5,7 @@ ghost use Rattle.site_read.specs.Records.{piece_of};
 ghost use Rattle.site_read.specs.Sites.{piece_table};
 ghost use Rattle.loops.specs.Loading.{Holds, RegionLoopRead};
 ghost use Rattle.loops.specs.Places.{place_table};
-ghost use Rattle.loops.specs.States.{place_states};
+ghost use Rattle.loops.specs.PlaceTraffic.{table_meaning};
 
 use crate::contract_loop::ContractLoop;
 use crate::load_fault::LoadFault;
@@ -58,7 +58,7 @@ impl Place {
 
     /// How many states its loop has; a vacant place has one.
     pub fn states(&self) -> u16
-        ensures { result ≡ place_states (place_table self.now) }
+        ensures { result ≡ (table_meaning (place_table self.now)).states }
     {
         match self {
             Place::Vacant => 1,

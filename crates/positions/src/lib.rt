@@ -53,7 +53,7 @@ pub struct WorkedExamples {
 
 /// The worked examples, to be checked by hand.
 // The prover computes the figures from the definitions, so the attribute names each definition that it has to open.
-#[tactic(auto, using(crate::proofs::Checked::checked_positions), unfolding(traffic::specs::Searches::some_below, traffic::specs::Searches::every_below, traffic::specs::Searches::least, traffic::specs::Meaning::legal, traffic::specs::Answered::within_limits, game::specs::Game::jam, game::specs::Game::keeps_in, game::specs::Game::holds_out, game::specs::Game::Z, game::specs::Game::mark_by, game::specs::Game::mark, game::specs::Game::permitted_by, game::specs::Choice::pick_by, game::specs::Choice::threat, game::specs::Choice::comes_before, game::specs::Choice::worst, game::specs::Choice::spoiler_by, game::specs::Filling::values, game::specs::Maps::turned_away))]
+#[tactic(auto, using(crate::proofs::Checked::checked_positions), unfolding(traffic::specs::Searches::some_below, traffic::specs::Searches::every_below, traffic::specs::Searches::least, traffic::specs::Meaning::legal, traffic::specs::Answered::within_limits, traffic::specs::Meaning::jam, game::specs::Game::keeps_in, game::specs::Game::holds_out, game::specs::Game::Z, game::specs::Game::mark_by, game::specs::Game::mark, game::specs::Game::permitted_by, game::specs::Choice::pick_by, game::specs::Choice::threat, game::specs::Choice::comes_before, game::specs::Choice::worst, game::specs::Choice::spoiler_by, game::specs::Filling::values, game::specs::Maps::turned_away))]
 pub fn worked_examples() -> WorkedExamples
     ensures facts { CheckedPositions }
     ensures figures { result ≡ worked_out }

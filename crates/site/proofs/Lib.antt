@@ -1,2 +1,3 @@
 mod Assembled
 mod Grouped
+pub mod Made

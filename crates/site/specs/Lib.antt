@@ -1,5 +1,4 @@
 pub mod Held
-pub mod Joint
 pub mod Loaded
 pub mod SiteTraffic
 pub mod Group

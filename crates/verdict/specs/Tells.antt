@@ -1,7 +1,6 @@
 -- What a verdict says of a file.
 use Rattle.std.specs.Prelude.{◌≡◌, ℕ, ◌<◌, ◌≤◌, ◌⊎◌, List}
 use Rattle.site_read.specs.Format.{Places, LawfulSite, file_of}
-use Rattle.site.specs.Joint.{joint_states}
 use Rattle.site.specs.SiteTraffic.{site_meaning}
 use Rattle.game.specs.Filling.{winning, rounds}
 use Rattle.game.specs.Plays.{Rule, Led, Safe}
@@ -14,7 +13,7 @@ use Rattle.verdict.specs.declared.Verdict.TheVariants.{Schedule, NoSchedule, Ref
 pub record GameOf (file : List ℕ) (n : ℕ) (t : Tally) (p : Places) : Type 0 where
   pub lawful : LawfulSite p
   pub written : file ≡ file_of p
-  pub states : joint_states p ≡ n
+  pub states : (site_meaning p).states ≡ n
   pub few : n ≤ 32768
   pub won : t.winning ≡ winning (site_meaning p)
   pub lasted : t.rounds ≡ rounds (site_meaning p)
@@ -25,4 +24,4 @@ pub record GameOf (file : List ℕ) (n : ℕ) (t : Tally) (p : Places) : Type 0 
 abbrev pub Tells : List ℕ → ℕ → Verdict → Type 0
 Tells file room (Schedule n t) = (p : Places) × GameOf file n t p × ((m : ℕ) × Safe (site_meaning p) 0 m)
 Tells file room (NoSchedule n t k) = (p : Places) × GameOf file n t p × ((ρ : Rule (site_meaning p)) → Led ρ 0) × LeastCount (site_meaning p) 0 k
-Tells file room (Refused r) = (p : Places) → LawfulSite p → file ≡ file_of p → (32768 < joint_states p) ⊎ (room < joint_states p)
+Tells file room (Refused r) = (p : Places) → LawfulSite p → file ≡ file_of p → (32768 < (site_meaning p).states) ⊎ (room < (site_meaning p).states)

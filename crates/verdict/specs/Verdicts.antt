@@ -1,12 +1,12 @@
 -- The verdict on a site file, the map afterwards, and the lines that say the verdict.
 use Rattle.std.specs.Prelude.{◌≡◌, ℕ, List, ◌++◌, Some, None, Ok, Err, codes, decimal, Option, Result}
 use Rattle.std.specs.declared.alloc.AllocError.{AllocError}
+use Rattle.traffic.specs.Answered.{states_of}
 use Rattle.site_read.specs.declared.fault.Fault.{Fault}
 use Rattle.site_read.specs.Faults.{report, told, refusal}
 use Rattle.site_read.specs.Format.{Places}
 use Rattle.site_read.specs.Sites.{site}
 use Rattle.site.specs.Loaded.{RegionLoopsRead}
-use Rattle.site.specs.Joint.{counted}
 use Rattle.site.specs.SiteTraffic.{site_meaning}
 use Rattle.game.specs.declared.solution.Refusal.{Refusal}
 use Rattle.game.specs.declared.solution.Refusal.TheVariants.{NoSchedule as NoSchedule-found, Map}
@@ -34,10 +34,10 @@ counted_map None before after = before
 
 -- synthesis from joint state 0
 abbrev pub site_verdict : Places → List ℕ → Verdict
-site_verdict p map = counted_verdict (counted p) (armed 0 (solved (site_meaning p) 0 map))
+site_verdict p map = counted_verdict (states_of (site_meaning p)) (armed 0 (solved (site_meaning p) 0 map))
 
 abbrev pub site_map : Places → List ℕ → List ℕ
-site_map p map = counted_map (counted p) map (map_after (site_meaning p) 0 map)
+site_map p map = counted_map (states_of (site_meaning p)) map (map_after (site_meaning p) 0 map)
 
 abbrev pub verdict_by : Result Places Fault → List ℕ → Verdict
 verdict_by (Ok p) map = site_verdict p map

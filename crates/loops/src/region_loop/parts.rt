@@ -1,8 +1,7 @@
 //! What a region loop tells of itself.
 ghost use Rattle.std.specs.Prelude.{◌≡◌};
-ghost use Rattle.site_read.specs.Tables.{by_regions};
 ghost use Rattle.loops.specs.Loading.{table_of};
-ghost use Rattle.loops.specs.States.{table_states};
+ghost use Rattle.loops.specs.RegionTraffic.{region_meaning};
 
 use crate::region::Region;
 use crate::region_loop::RegionLoop;
@@ -17,7 +16,7 @@ impl RegionLoop {
 
     /// The sum of its deadlines.
     pub fn states(&self) -> u16
-        ensures { result ≡ table_states (by_regions (table_of self.now)) }
+        ensures { result ≡ (region_meaning (table_of self.now)).states }
     {
         self.states
     }

@@ -1,9 +1,10 @@
 //! What a site tells of itself.
 ghost use Rattle.std.specs.Prelude.{◌≡◌, map};
+ghost use Rattle.traffic.specs.Answered.{states_of};
 ghost use Rattle.loops.specs.declared.place.Place.TheVariants.{Vacant};
 ghost use Rattle.site.specs.Held.{vacant};
 ghost use Rattle.site.specs.Loaded.{site_places, places_of};
-ghost use Rattle.site.specs.Joint.{counted};
+ghost use Rattle.site.specs.SiteTraffic.{site_meaning};
 
 use crate::site::Site;
 use loops::place::Place;
@@ -42,7 +43,7 @@ impl Site {
 
     /// The number of joint states, the product of the places' states; absent over the limits of traffics.
     pub fn states(&self) -> Option<usize>
-        ensures { result ≡ counted (site_places self.now) }
+        ensures { result ≡ states_of (site_meaning (site_places self.now)) }
     {
         let size = self.size()?;
         Some(size.states)
