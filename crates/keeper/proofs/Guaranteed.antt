@@ -5,22 +5,25 @@ use Rattle.traffic.specs.Answered.{within_limits}
 use Rattle.game.specs.declared.solution.Tally.{Tally}
 use Rattle.game.specs.declared.solution.Refusal.{Refusal}
 use Rattle.game.specs.Game.{mark}
-use Rattle.game.specs.Plays.{Past, begin}
+use Rattle.game.specs.Plays.{begin, Safe}
+use Rattle.game.specs.Standing.{on}
 use Rattle.game.specs.Maps.{Filled}
 use Rattle.game.specs.Filling.{filled}
 use Rattle.game.specs.Answers.{tally, judged, answer_unless, map_unless, solved, map_after}
-use Rattle.game.proofs.Rules.{marks_tell}
+use Rattle.game.proofs.Rounds.{unmarked_lasts}
+use Rattle.game.proofs.Rules.{lasts_permitted, marks_tell}
 use Rattle.game.proofs.Admitted.{admitted}
 use Rattle.game.proofs.Counsel.{permitted_is_safe}
 use Rattle.game.proofs.Filled.{filled_is}
+use Rattle.game.proofs.Sustained.{marks_sustained, permitted_alike, sustained_alike}
 use Rattle.keeper.specs.declared.arming.Armed.{Armed}
 use Rattle.keeper.specs.declared.service.Keeper.TheVariants.{Ready as AtReady}
 use Rattle.keeper.specs.declared.service.Call.{Call}
 use Rattle.keeper.specs.Arming.{armed}
-use Rattle.keeper.specs.Service.{answers, after_calls}
-use Rattle.keeper.specs.Promise.{Runs}
-use Rattle.keeper.specs.Guarantee.{SaysNone, Guarantee, Promised}
-use Rattle.keeper.proofs.Course.{armed_runs}
+use Rattle.keeper.specs.Promise.Phase.{ready}
+use Rattle.keeper.specs.Guarantee.{SaysNone, RunsSafely, Guarantee, Promised}
+use Rattle.keeper.proofs.Soundness.{sound_begin}
+use Rattle.keeper.proofs.Course.{MapServes, closed, runs}
 
 module _ (start : ℕ) (t : Tally) where
   -- the answer is "no schedule" with count k exactly when the start's mark is k + 1
@@ -33,15 +36,29 @@ module _ (start : ℕ) (t : Tally) where
   marked_none (suc k) n = (k, (t, refl))
 
   -- and a keeper is armed, at the start, exactly when the mark is 0
-  armed_unmarked : (m : ℕ) (a : Armed) → armed start (judged m t) ≡ Ok a → (m ≡ 0) × (record { keeper = record { state = start }; tally = t } ≡ a)
+  pub armed_unmarked : (m : ℕ) (a : Armed) → armed start (judged m t) ≡ Ok a → (m ≡ 0) × (record { keeper = record { state = start }; tally = t } ≡ a)
   armed_unmarked zero a e = (refl, cc)
   armed_unmarked (suc k) a e = let no : ◌≡◌ {A = ℕ} 0 1 = cc in absurd (omega arith)
 
+-- a filled map serves its traffic: it permits exactly the safe moves
+filled_serves : (M : Meaning) → Lawful M → (map : List ℕ) → within_limits M ≡ true → M.states ≤ length map → Filled M map → MapServes M (Safe M) (mark M) map
+filled_serves M law map limits room full = record {
+  law = law;
+  limits = limits;
+  room = room;
+  holds = full;
+  exact = permitted_is_safe M law map full;
+  sustained = sustained_alike M (on map) (mark M) full (marks_sustained M) (permitted_alike M (mark M) (on map) (λ s h. sym (full s h)));
+}
+
 module _ (M : Meaning) (law : Lawful M) (start : ℕ) (map : List ℕ) (limits : within_limits M ≡ true) (room : M.states ≤ length map) (inside : start < M.states) (full : Filled M map) where
-  runs_on : (a : Armed) → record { keeper = record { state = start }; tally = tally M } ≡ a → mark M start ≡ 0 → (calls : List Call) → (course : Past) × Runs M start (begin start) (AtReady a.keeper) calls (answers M map (AtReady a.keeper) calls) course (after_calls M map (AtReady a.keeper) calls)
+  runs_on : (a : Armed) → record { keeper = record { state = start }; tally = tally M } ≡ a → mark M start ≡ 0 → (calls : List Call) → RunsSafely M start map a calls
   runs_on a e z calls =
-      subst (λ (x : Armed). (course : Past) × Runs M start (begin start) (AtReady x.keeper) calls (answers M map (AtReady x.keeper) calls) course (after_calls M map (AtReady x.keeper) calls)) e
-      (armed_runs M law map limits room full start inside z calls)
+      subst (λ (x : Armed). RunsSafely M start map x calls) e
+      (let by = filled_serves M law map limits room full in
+      let w = lasts_permitted M start (unmarked_lasts M start inside z) in
+      runs M (Safe M) (mark M) map by start calls (begin start) (AtReady (record { state = start }))
+      (sound_begin M law (Safe M) (closed M (Safe M) (mark M) map by) (ready start) inside tt (w.0, ((marks_tell M law).permit start w.0 inside).0 w.1)))
 
   guaranteed : Guarantee M start (armed start (judged (mark M start) (tally M))) map
   guaranteed = record {

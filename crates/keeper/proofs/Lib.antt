@@ -1,4 +1,5 @@
 mod Taken
+mod Soundness
 mod Course
 mod Guaranteed
 mod Performed

@@ -4,7 +4,7 @@ use Rattle.traffic.specs.Meaning.{Meaning}
 use Rattle.game.specs.declared.solution.Tally.{Tally}
 use Rattle.game.specs.declared.solution.Refusal.{Refusal}
 use Rattle.game.specs.declared.solution.Refusal.TheVariants.{NoSchedule}
-use Rattle.game.specs.Game.{permitted_by}
+use Rattle.game.specs.Game.{mark, permitted_by}
 use Rattle.game.specs.Plays.{Past, begin, Rule, Led, Safe}
 use Rattle.game.specs.Laws.{LeastCount}
 use Rattle.game.specs.Standing.{on}
@@ -13,11 +13,17 @@ use Rattle.keeper.specs.declared.service.Keeper.TheVariants.{Ready as AtReady}
 use Rattle.keeper.specs.declared.service.Call.{Call}
 use Rattle.keeper.specs.declared.arming.Armed.{Armed}
 use Rattle.keeper.specs.Service.{answers, after_calls}
-use Rattle.keeper.specs.Promise.{Runs}
+use Rattle.keeper.specs.Promise.{phase, Runs}
+use Rattle.keeper.specs.Promise.Phase.{ready}
 
 -- the answer is that there is no schedule, with this count
 abbrev pub SaysNone : Result Armed Refusal → ℕ → Type 0
 SaysNone r k = (t : Tally) × (r ≡ Err (NoSchedule k t))
+
+-- calls on the armed keeper are served so that its course is a play without a jam, and exactly the safe moves may be made
+abbrev pub RunsSafely : Meaning → ℕ → List ℕ → Armed → List Call → Type 0
+RunsSafely M start map a calls =
+    (course : Past) × Runs M (Safe M) (mark M) start (begin start) (ready start) calls (answers M map (AtReady a.keeper) calls) course (phase (after_calls M map (AtReady a.keeper) calls))
 
 pub record Guarantee (M : Meaning) (start : ℕ) (r : Result Armed Refusal) (map : List ℕ) : Type 0 where
   -- 1. "no schedule" is the answer exactly when every rule, though it reads the entire past, is led into a jam from the
@@ -30,7 +36,7 @@ pub record Guarantee (M : Meaning) (start : ℕ) (r : Result Armed Refusal) (map
   -- 3. the armed keeper holds the start; and any list of calls on it, while traffic and map are those of the arming, is
   -- served so that its course is a play without a jam to the state held, which has a safe move
   pub holds_the_start : (a : Armed) → r ≡ Ok a → a.keeper.state ≡ start
-  pub never_meets_a_jam : (a : Armed) → r ≡ Ok a → (calls : List Call) → (course : Past) × Runs M start (begin start) (AtReady a.keeper) calls (answers M map (AtReady a.keeper) calls) course (after_calls M map (AtReady a.keeper) calls)
+  pub never_meets_a_jam : (a : Armed) → r ≡ Ok a → (calls : List Call) → RunsSafely M start map a calls
 
 -- for every start and every map, as it was before the call, unless the call was turned away
 abbrev pub Promised : Meaning → ℕ → List ℕ → Result Armed Refusal → List ℕ → Type 0
