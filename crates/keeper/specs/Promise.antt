@@ -83,3 +83,8 @@ module _ (M : Meaning) (may : ℕ → ℕ → Type 0) (marks : ℕ → ℕ) wher
     done : {p : Past} {k : Phase} → Sound M may start p k → Runs start p k [] [] p k
     then : {p q r : Past} {k l n : Phase} {c : Call} {a : Answer} {cs : List Call} {said : List Answer} →
         Sound M may start p k → Serves p k c a q l → Runs start q l cs said r n → Runs start p k (c ∷ cs) (a ∷ said) r n
+
+  -- the call and where it is asked leave one answer, one course and one phase after it
+  abbrev pub OneAnswer : Type 0
+  OneAnswer =
+      (p q r : Past) (k l n : Phase) (c : Call) (a b : Answer) → Serves p k c a q l → Serves p k c b r n → (a ≡ b) × (q ≡ r) × (l ≡ n)

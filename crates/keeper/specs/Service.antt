@@ -1,5 +1,5 @@
 -- What one call does to a keeper and answers, and what a list of calls does.
-use Rattle.std.specs.Prelude.{ℕ, List, [], ◌∷◌, Ok, Err, Result}
+use Rattle.std.specs.Prelude.{ℕ, List, [], ◌∷◌, map, zip, Some, Ok, Err, Result}
 use Rattle.traffic.specs.Meaning.{Meaning}
 use Rattle.game.specs.declared.map_fault.MapFault.{MapFault}
 use Rattle.game.specs.Game.{permitted_by}
@@ -16,6 +16,7 @@ use Rattle.keeper.specs.declared.service.Call.{Call}
 use Rattle.keeper.specs.declared.service.Call.TheVariants.{Permits, Pick, Grant, Report, PermitsIn, Spoiler}
 use Rattle.keeper.specs.declared.service.Answer.{Answer}
 use Rattle.keeper.specs.declared.service.Answer.TheVariants.{Permitted, Picked, Granted, Taken, Spoiled, Refused, OutOfTurn}
+use Rattle.keeper.specs.declared.service.Exchange.{Exchange}
 use Rattle.keeper.specs.Slots.{granted, reported}
 
 -- the answer, or that the call was turned away
@@ -30,6 +31,17 @@ after_grant (Err e) = (AtReady e.1, Refused e.0)
 abbrev pub after_report : Result Ready (SlotFault × Waiting) → Keeper × Answer
 after_report (Ok k) = (AtReady k, Taken)
 after_report (Err e) = (AtWaiting e.1, Refused e.0)
+
+-- the calls of a row of exchanges
+abbrev pub calls : List Exchange → List Call
+calls row = map (λ (x : Exchange). x.call) row
+
+-- the row of these calls, each with its answer
+abbrev pub exchanged : List Call → List Answer → List Exchange
+exchanged cs said = map both (zip cs said)
+  where
+    both : Call × Answer → Exchange
+    both x = record { call = x.0; answer = Some x.1 }
 
 module _ (M : Meaning) (map : List ℕ) where
   abbrev pub permits_answer : ℕ → ℕ → Answer
@@ -64,3 +76,7 @@ module _ (M : Meaning) (map : List ℕ) where
   abbrev pub answers : Keeper → List Call → List Answer
   answers k [] = []
   answers k (c ∷ cs) = (stepped k c).1 ∷ answers (stepped k c).0 cs
+
+  -- a row after its calls
+  abbrev pub answered : Keeper → List Exchange → List Exchange
+  answered k row = exchanged (calls row) (answers k (calls row))

@@ -41,6 +41,13 @@ pub enum Answer {
     OutOfTurn,
 }
 
+/// A call, and the place for its answer.
+#[derive(Clone, Copy, PartialEq, Eq, Debug)]
+pub struct Exchange {
+    pub call: Call,
+    pub answer: Option<Answer>,
+}
+
 // What is said: the answer, or that the call was turned away.
 fn said(answer: Result<Answer, MapFault>) -> Answer
     ensures { result ≡ said_of answer }
