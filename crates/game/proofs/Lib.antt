@@ -11,4 +11,4 @@ pub mod Choosing
 pub mod Sustained
 pub mod Counsel
 pub mod Filled
-mod Solved
+pub mod Solved

@@ -1,8 +1,9 @@
 //! Arming a keeper and serving a whole row of calls with it.
-ghost use Rattle.std.specs.Prelude.{◌≡◌};
+ghost use Rattle.std.specs.Prelude.{◌≡◌, length};
 ghost use Rattle.game.specs.Game.{mark};
 ghost use Rattle.game.specs.Plays.{Safe};
-ghost use Rattle.game.specs.Answers.{map_after};
+ghost use Rattle.game.specs.Maps.{turned_away};
+ghost use Rattle.game.specs.Answers.{told, map_after};
 ghost use Rattle.keeper.specs.Service.{calls, answered, after_calls};
 ghost use Rattle.keeper.specs.Promise.{OneAnswer};
 ghost use Rattle.keeper.specs.Serving.{served, row_after, KeptPromise};
@@ -62,7 +63,7 @@ pub fn serve<T: Traffic>(
     ensures answer { result ≡ served (T.meaning traffic.now) start map.old (calls exchanges.old) }
     ensures row { exchanges.new ≡ row_after (T.meaning traffic.now) start map.old exchanges.old }
     ensures after { map.new ≡ map_after (T.meaning traffic.now) start map.old }
-    ensures guarantee { KeptPromise (T.meaning traffic.now) start map.old map.new (calls exchanges.old) exchanges.new result }
+    ensures guarantee { KeptPromise told (turned_away (T.meaning traffic.now) (length map.old) start) (T.meaning traffic.now) start map.new (calls exchanges.old) exchanges.new result }
     ensures one_answer { OneAnswer (T.meaning traffic.now) (Safe (T.meaning traffic.now)) (mark (T.meaning traffic.now)) }
 {
     arm_and_perform(traffic, start, map, exchanges)

@@ -12,9 +12,13 @@ use Rattle.site.specs.Joint.{joint_states}
 use Rattle.site.specs.SiteTraffic.{site_meaning}
 use Rattle.site.specs.SiteLaws.{places_lawful, joint_told, within_is}
 use Rattle.game.specs.declared.map_fault.MapFault.{MapFault}
+use Rattle.game.specs.declared.solution.Tally.{Tally}
+use Rattle.game.specs.declared.solution.Refusal.{Refusal}
+use Rattle.game.specs.declared.solution.Refusal.TheVariants.{Map}
 use Rattle.game.specs.Game.{mark}
+use Rattle.game.specs.Refusals.{unless}
 use Rattle.game.specs.Maps.{turned_away}
-use Rattle.game.specs.Answers.{tally, judged, answer_unless}
+use Rattle.game.specs.Answers.{tally, judged}
 use Rattle.keeper.specs.Arming.{armed}
 use Rattle.game.proofs.Rounds.{unmarked_lasts}
 use Rattle.game.proofs.Rules.{lasts_permitted, marks_tell}
@@ -30,6 +34,10 @@ module _ (file : List ℕ) (bytes : Bytes file) (map : List ℕ) where
   refuses p q big p' l f =
       let same : p ≡ p' = same_ok p p' (sym q ∙ ap site f ∙ files_are_read p' l) in
       subst (λ (x : Places). (32768 < joint_states x) ⊎ (length map < joint_states x)) same big
+
+  -- what synthesis answers, unless it is turned away
+  abbrev answer_unless : Option MapFault → Places → Result Tally Refusal
+  answer_unless away p = unless (λ f. Err (Map f)) away (judged (mark (site_meaning p) 0) (tally (site_meaning p)))
 
   module _ (p : Places) (q : site file ≡ Ok p) (few : joint_states p ≤ 32768) where
     l : LawfulSite p
@@ -55,7 +63,7 @@ module _ (file : List ℕ) (bytes : Bytes file) (map : List ℕ) where
       (marks_tell (site_meaning p) law).count 0 k inside e,
     )
 
-    by_room : (o : Option MapFault) → turned_away (site_meaning p) (length map) 0 ≡ o → Tells file (length map) (ruled (joint_states p) (armed 0 (answer_unless o (site_meaning p) 0)))
+    by_room : (o : Option MapFault) → turned_away (site_meaning p) (length map) 0 ≡ o → Tells file (length map) (ruled (joint_states p) (armed 0 (answer_unless o p)))
     by_room None e = by_mark (mark (site_meaning p) 0) refl
     by_room (Some f) e = refuses p q (inr short)
       where
@@ -69,7 +77,7 @@ module _ (file : List ℕ) (bytes : Bytes file) (map : List ℕ) where
                   absurd (omega arith)
             ]
 
-  accepted : (p : Places) → site file ≡ Ok p → (b : Bool) → leb (joint_states p) 32768 ≡ b → Tells file (length map) (counted_verdict (cond b (Some (joint_states p)) None) (armed 0 (answer_unless (turned_away (site_meaning p) (length map) 0) (site_meaning p) 0)))
+  accepted : (p : Places) → site file ≡ Ok p → (b : Bool) → leb (joint_states p) 32768 ≡ b → Tells file (length map) (counted_verdict (cond b (Some (joint_states p)) None) (armed 0 (answer_unless (turned_away (site_meaning p) (length map) 0) p)))
   accepted p q true e = by_room p q (leb-true (joint_states p) 32768 e) (turned_away (site_meaning p) (length map) 0) refl
   accepted p q false e = refuses p q (inl (leb-false (joint_states p) 32768 e))
 

@@ -9,7 +9,7 @@ use Rattle.site.specs.Joint.{counted}
 use Rattle.site.specs.SiteTraffic.{site_meaning}
 use Rattle.game.specs.declared.solution.Refusal.{Refusal}
 use Rattle.game.specs.declared.solution.Refusal.TheVariants.{NoSchedule as NoSchedule-found, Map}
-use Rattle.game.specs.Maps.{number}
+use Rattle.game.specs.Maps as maps
 use Rattle.game.specs.Answers.{solved, map_after}
 use Rattle.keeper.specs.declared.arming.Armed.{Armed}
 use Rattle.keeper.specs.Arming.{armed}
@@ -20,7 +20,7 @@ use Rattle.verdict.specs.declared.Verdict.TheVariants.{Schedule, NoSchedule, Ref
 abbrev pub ruled : ℕ → Result Armed Refusal → Verdict
 ruled n (Ok a) = Schedule n a.tally
 ruled n (Err (NoSchedule-found k t)) = NoSchedule n t k
-ruled n (Err (Map f)) = Refused (told (number f) 0 0)
+ruled n (Err (Map f)) = Refused (told (maps.told f).number 0 0)
 
 -- a site over the limits is refused with number 9
 abbrev pub counted_verdict : Option ℕ → Result Armed Refusal → Verdict
