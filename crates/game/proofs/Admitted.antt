@@ -8,13 +8,14 @@ use Rattle.traffic.specs.Answered.{within_limits, sized}
 use Rattle.traffic.proofs.Asked.{within_parts}
 use Rattle.game.specs.declared.map_fault.MapFault.{MapFault}
 use Rattle.game.specs.declared.map_fault.MapFault.TheVariants.{OverLimits, ShortMap, NoSuchState}
-use Rattle.game.specs.Maps.{turned_away, unless}
+use Rattle.game.specs.Refusals.{unless}
+use Rattle.game.specs.Maps.{turned_away}
 
 -- a call that is not turned away is answered
-pub answer_is : {A : Type 0} (o : Option MapFault) (a b : A) → o ≡ None → b ≡ a → Ok b ≡ unless o a
+pub answer_is : {A : Type 0} (o : Option MapFault) (a b : A) → o ≡ None → b ≡ a → Ok b ≡ unless Err o (Ok a)
 answer_is o a b e q = rw e (ap Ok q)
 
-pub answered : {A : Type 0} (o : Option MapFault) (a b : A) → Ok b ≡ unless o a → (o ≡ None) × (b ≡ a)
+pub answered : {A : Type 0} (o : Option MapFault) (a b : A) → Ok b ≡ unless Err o (Ok a) → (o ≡ None) × (b ≡ a)
 answered None a b e = (refl, cc)
 answered (Some f) a b e = let z : ◌≡◌ {A = ℕ} 0 1 = cc in absurd (omega arith)
 
@@ -79,7 +80,7 @@ module _ (M : Meaning) (length s : ℕ) where
     pub room : z.states ≤ length
     pub inside : s < z.states
 
-  pub size_told : (z : Size) → Ok z ≡ unless (turned_away M length s) (sized M) → SizeTold z
+  pub size_told : (z : Size) → Ok z ≡ unless Err (turned_away M length s) (Ok (sized M)) → SizeTold z
   size_told z e =
       let a = answered _ _ _ e in
       let h = admitted a.0 in

@@ -8,6 +8,7 @@ mod Midway
 mod Steady
 pub mod Admitted
 pub mod Choosing
+pub mod Sustained
 pub mod Counsel
 pub mod Filled
-mod Solved
+pub mod Solved

@@ -1,12 +1,13 @@
 //! The board of a game: a traffic, and a map of marks for its states, from any caller. It answers about a state whether a
 //! move is permitted, the pick and the spoiler. On a map that synthesis filled for the same traffic, the answers are those
 //! of the game.
-ghost use Rattle.std.specs.Prelude.{◌≡◌, length, Some, None, MatchResult};
+ghost use Rattle.std.specs.Prelude.{◌≡◌, length, Some, None, Ok, Err, MatchResult};
 ghost use Rattle.traffic.specs.Answered.{sized};
 ghost use Rattle.game.specs.Game.{permitted_by};
 ghost use Rattle.game.specs.Choice.{pick_by, spoiler_by};
 ghost use Rattle.game.specs.Standing.{on};
-ghost use Rattle.game.specs.Maps.{turned_away, unless, unless_turned_away, Filled};
+ghost use Rattle.game.specs.Refusals.{unless};
+ghost use Rattle.game.specs.Maps.{turned_away, unless_turned_away, Filled};
 ghost use Rattle.game.specs.Counsel.{ExactlySafe, LowestSafe, LeadsDown};
 
 use crate::map_fault::MapFault;
@@ -23,7 +24,7 @@ pub struct Board<'a, T> {
 
 /// The traffic's size, if a map of so many marks serves for a call about this state.
 pub fn admit<T: Traffic>(traffic: &T, marks: usize, state: usize) -> Result<Size, MapFault>
-    ensures { result ≡ unless (turned_away (T.meaning traffic.now) marks state) (sized (T.meaning traffic.now)) }
+    ensures { result ≡ unless Err (turned_away (T.meaning traffic.now) marks state) (Ok (sized (T.meaning traffic.now))) }
 {
     let size = traffic.size().ok_or(MapFault::OverLimits)?;
     if marks < size.states {

@@ -1,6 +1,6 @@
 //! Why a call that is given a map is turned away.
 ghost use Rattle.std.specs.Prelude.{◌≡◌};
-ghost use Rattle.game.specs.Maps.{number};
+ghost use Rattle.game.specs.Maps.{told};
 
 #[derive(Clone, Copy, PartialEq, Eq, Debug)]
 pub enum MapFault {
@@ -16,7 +16,7 @@ impl MapFault {
     /// The refusal's number.
     // A method: u8::from(fault) would not say that it is the refusal's number.
     pub fn number(self) -> u8
-        ensures { result ≡ number self }
+        ensures { result ≡ (told self).number }
     {
         match self {
             MapFault::OverLimits => 9,

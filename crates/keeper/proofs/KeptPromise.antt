@@ -1,31 +1,26 @@
--- A list of calls that is served keeps the guarantee.
-use Rattle.std.proofs.Common.{◌≡◌, ℕ, List, length, Some, None, Ok, Err, Option, Result, sym, refl, ap, subst₂, arith}
+-- A row of calls that is served keeps the guarantee.
+use Rattle.std.proofs.Common.{◌≡◌, ℕ, List, length, Ok, Err, is_ok, Result, sym, refl, ap, cond}
 use Rattle.traffic.specs.Meaning.{Meaning, Lawful}
-use Rattle.game.specs.declared.map_fault.MapFault.{MapFault}
 use Rattle.game.specs.declared.solution.Tally.{Tally}
-use Rattle.game.specs.Plays.{begin}
+use Rattle.game.specs.declared.solution.Refusal.{Refusal}
 use Rattle.game.specs.Maps.{turned_away}
-use Rattle.game.specs.Answers.{answer_unless, solved}
+use Rattle.game.specs.Answers.{told, solved, map_after}
+use Rattle.game.proofs.Solved.{open_solved}
 use Rattle.keeper.specs.declared.serving.Served.{Served}
-use Rattle.keeper.specs.declared.serving.ServeFault.{ServeFault}
-use Rattle.keeper.specs.declared.serving.ServeFault.TheVariants.{Synthesis, Memory}
-use Rattle.keeper.specs.declared.service.Call.{Call}
+use Rattle.keeper.specs.declared.service.Exchange.{Exchange}
 use Rattle.keeper.specs.Arming.{armed}
-use Rattle.keeper.specs.Promise.{ready, Runs}
-use Rattle.keeper.specs.Serving.{Serving, KeptPromise}
+use Rattle.keeper.specs.Service.{calls, answers, answered, after_calls}
+use Rattle.keeper.specs.Serving.{armed_at, served, served_from, row_after, KeptPromise}
 use Rattle.keeper.proofs.Guaranteed.{promised}
 
-module _ (M : Meaning) (law : Lawful M) (start : ℕ) (before after : List ℕ) (long : length after ≡ length before) where
-  -- a call that was answered was not turned away
-  answered_open : (t : Tally) (o : Option MapFault) → turned_away M (length before) start ≡ o → solved M start before ≡ Ok t → o ≡ None
-  answered_open t None a e = refl
-  answered_open t (Some f) a e = let w = ap (λ x. answer_unless x M start) a in let z : ◌≡◌ {A = ℕ} 0 1 = cc in absurd (omega arith)
+module _ (M : Meaning) (law : Lawful M) (start : ℕ) (before after : List ℕ) (long : length after ≡ length before) (full : after ≡ map_after M start before) (row : List Exchange) where
+  promise : (found : Result Tally Refusal) → solved M start before ≡ found → KeptPromise told (turned_away M (length before) start) M start after (calls row) (cond (is_ok found) (answered M after (armed_at start) row) row) (served_from found (after_calls M after (armed_at start) (calls row)))
+  promise (Ok t) e =
+      let none = open_solved M start before t e in
+      let g = promised M law start before after _ long (sym (ap (armed start) e)) full none in
+      let w = g.never_meets_a_jam _ refl (calls row) in
+      (g, (w.0, answers M after (armed_at start) (calls row), refl, w.1))
+  promise (Err f) e = promised M law start before after _ long (sym (ap (armed start) e)) full
 
-  pub kept : (calls : List Call) (r : Result Served ServeFault) → Serving M start calls before after r → KeptPromise M start calls before after r
-  kept calls (Ok s) h =
-      let none = answered_open s.tally _ refl h.0 in
-      let g = promised M law start before after _ long (sym (ap (armed start) h.0)) h.3 none in
-      let w = g.never_meets_a_jam _ refl calls in
-      (g, (w.0, subst₂ (λ a k. Runs M start (begin start) (ready start) calls a w.0 k) (sym h.2) (sym h.1) w.1))
-  kept calls (Err (Synthesis e)) h = promised M law start before after _ long (sym (ap (armed start) h.0)) h.1
-  kept calls (Err Memory) h = tt
+  pub kept : (left : List Exchange) (r : Result Served Refusal) → r ≡ served M start before (calls row) → left ≡ row_after M start before row → KeptPromise told (turned_away M (length before) start) M start after (calls row) left r
+  kept left r e f = rw (e, f, ← full) (promise _ refl)

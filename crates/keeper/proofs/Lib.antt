@@ -1,4 +1,6 @@
 mod Taken
+mod Soundness
+mod Settled
 mod Course
 mod Guaranteed
 mod Performed

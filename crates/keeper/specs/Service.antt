@@ -1,11 +1,11 @@
 -- What one call does to a keeper and answers, and what a list of calls does.
-use Rattle.std.specs.Prelude.{ℕ, List, [], ◌∷◌, Ok, Err, Result}
+use Rattle.std.specs.Prelude.{ℕ, List, [], ◌∷◌, length, map, zip, Some, Ok, Err, Result}
 use Rattle.traffic.specs.Meaning.{Meaning}
-use Rattle.game.specs.declared.map_fault.MapFault.{MapFault}
 use Rattle.game.specs.Game.{permitted_by}
 use Rattle.game.specs.Choice.{pick_by, spoiler_by}
 use Rattle.game.specs.Standing.{on}
-use Rattle.game.specs.Maps.{unless_turned_away}
+use Rattle.game.specs.Refusals.{unless}
+use Rattle.game.specs.Maps.{turned_away}
 use Rattle.keeper.specs.declared.slot.Ready.{Ready}
 use Rattle.keeper.specs.declared.slot.Waiting.{Waiting}
 use Rattle.keeper.specs.declared.slot_fault.SlotFault.{SlotFault}
@@ -16,12 +16,8 @@ use Rattle.keeper.specs.declared.service.Call.{Call}
 use Rattle.keeper.specs.declared.service.Call.TheVariants.{Permits, Pick, Grant, Report, PermitsIn, Spoiler}
 use Rattle.keeper.specs.declared.service.Answer.{Answer}
 use Rattle.keeper.specs.declared.service.Answer.TheVariants.{Permitted, Picked, Granted, Taken, Spoiled, Refused, OutOfTurn}
+use Rattle.keeper.specs.declared.service.Exchange.{Exchange}
 use Rattle.keeper.specs.Slots.{granted, reported}
-
--- the answer, or that the call was turned away
-abbrev pub said : Result Answer MapFault → Answer
-said (Ok a) = a
-said (Err f) = Refused (Map f)
 
 abbrev pub after_grant : Result Waiting (SlotFault × Ready) → Keeper × Answer
 after_grant (Ok k) = (AtWaiting k, Granted)
@@ -31,15 +27,30 @@ abbrev pub after_report : Result Ready (SlotFault × Waiting) → Keeper × Answ
 after_report (Ok k) = (AtReady k, Taken)
 after_report (Err e) = (AtWaiting e.1, Refused e.0)
 
+-- the calls of a row of exchanges
+abbrev pub calls : List Exchange → List Call
+calls row = map (λ (x : Exchange). x.call) row
+
+-- the row of these calls, each with its answer
+abbrev pub exchanged : List Call → List Answer → List Exchange
+exchanged cs said = map both (zip cs said)
+  where
+    both : Call × Answer → Exchange
+    both x = record { call = x.0; answer = Some x.1 }
+
 module _ (M : Meaning) (map : List ℕ) where
+  -- what is said of a state
+  abbrev pub said : ℕ → Answer → Answer
+  said s a = unless (λ f. Refused (Map f)) (turned_away M (length map) s) a
+
   abbrev pub permits_answer : ℕ → ℕ → Answer
-  permits_answer s m = said (unless_turned_away M map s (Permitted (permitted_by M (on map) s m)))
+  permits_answer s m = said s (Permitted (permitted_by M (on map) s m))
 
   abbrev pub pick_answer : ℕ → Answer
-  pick_answer s = said (unless_turned_away M map s (Picked (pick_by M (on map) s)))
+  pick_answer s = said s (Picked (pick_by M (on map) s))
 
   abbrev pub spoiler_answer : ℕ → ℕ → Answer
-  spoiler_answer s m = said (unless_turned_away M map s (Spoiled (spoiler_by M (on map) s m)))
+  spoiler_answer s m = said s (Spoiled (spoiler_by M (on map) s m))
 
   -- a call out of turn is answered so, and changes nothing
   abbrev pub stepped : Keeper → Call → Keeper × Answer
@@ -64,3 +75,7 @@ module _ (M : Meaning) (map : List ℕ) where
   abbrev pub answers : Keeper → List Call → List Answer
   answers k [] = []
   answers k (c ∷ cs) = (stepped k c).1 ∷ answers (stepped k c).0 cs
+
+  -- a row after its calls
+  abbrev pub answered : Keeper → List Exchange → List Exchange
+  answered k row = exchanged (calls row) (answers k (calls row))

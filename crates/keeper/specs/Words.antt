@@ -6,7 +6,7 @@ use Rattle.keeper.specs.declared.service.Call.{Call}
 use Rattle.keeper.specs.declared.service.Call.TheVariants.{Permits, Pick, Grant, Report, PermitsIn, Spoiler}
 use Rattle.keeper.specs.declared.service.Answer.{Answer}
 use Rattle.keeper.specs.declared.service.Answer.TheVariants.{Permitted, Picked, Granted, Taken, Spoiled, Refused, OutOfTurn}
-use Rattle.keeper.specs.Faults.{number}
+use Rattle.keeper.specs.Faults.{told}
 
 -- a move in a state
 abbrev pub in_state : ℕ → ℕ → List ℕ
@@ -29,7 +29,7 @@ answer_words (Spoiled (Some t)) = codes "state " ++ decimal t
 answer_words (Spoiled None) = codes "none"
 answer_words Granted = codes "granted"
 answer_words Taken = codes "taken"
-answer_words (Refused f) = codes "refused " ++ decimal (number f)
+answer_words (Refused f) = codes "refused " ++ decimal (told f).number
 answer_words OutOfTurn = codes "out of turn"
 
 abbrev pub keeper_words : Keeper → List ℕ

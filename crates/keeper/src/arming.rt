@@ -1,6 +1,7 @@
 //! Synthesis, which arms a keeper where the start is safe.
-ghost use Rattle.std.specs.Prelude.{◌≡◌};
-ghost use Rattle.game.specs.Answers.{solved, map_after};
+ghost use Rattle.std.specs.Prelude.{◌≡◌, length};
+ghost use Rattle.game.specs.Maps.{turned_away};
+ghost use Rattle.game.specs.Answers.{told, solved, map_after};
 ghost use Rattle.keeper.specs.Arming.{armed};
 ghost use Rattle.keeper.specs.Guarantee.{Promised};
 
@@ -31,7 +32,7 @@ fn solve_and_arm<T: Traffic>(traffic: &T, start: usize, map: &mut [u16]) -> Resu
 pub fn synthesise<T: Traffic>(traffic: &T, start: usize, map: &mut [u16]) -> Result<Armed, Refusal>
     ensures answer { result ≡ armed start (solved (T.meaning traffic.now) start map.old) }
     ensures after { map.new ≡ map_after (T.meaning traffic.now) start map.old }
-    ensures guarantee { Promised (T.meaning traffic.now) start map.old result map.new }
+    ensures guarantee { Promised told (turned_away (T.meaning traffic.now) (length map.old) start) (T.meaning traffic.now) start result map.new }
 {
     solve_and_arm(traffic, start, map)
 }

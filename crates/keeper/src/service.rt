@@ -1,6 +1,8 @@
 //! A whole list of calls on one keeper.
-ghost use Rattle.std.specs.Prelude.{◌≡◌};
-ghost use Rattle.keeper.specs.Service.{said as said_of, stepped};
+ghost use Rattle.std.specs.Prelude.{◌≡◌, MatchResult};
+ghost use Rattle.keeper.specs.Service.{stepped};
+ghost use Rattle.keeper.specs.declared.slot_fault.SlotFault.TheVariants.{Map};
+ghost use Rattle.keeper.specs.declared.service.Answer.TheVariants.{Refused};
 ghost use Rattle.keeper.specs.declared.service.Keeper.TheVariants.{Ready as AtReady, Waiting as AtWaiting};
 
 use crate::slot::{Ready, Waiting};
@@ -41,9 +43,16 @@ pub enum Answer {
     OutOfTurn,
 }
 
+/// A call, and the place for its answer.
+#[derive(Clone, Copy, PartialEq, Eq, Debug)]
+pub struct Exchange {
+    pub call: Call,
+    pub answer: Option<Answer>,
+}
+
 // What is said: the answer, or that the call was turned away.
 fn said(answer: Result<Answer, MapFault>) -> Answer
-    ensures { result ≡ said_of answer }
+    ensures { MatchResult answer (λ a. result ≡ a) (λ f. result ≡ Refused (Map f)) }
 {
     answer.unwrap_or_else(|fault| Answer::Refused(fault.into()))
 }

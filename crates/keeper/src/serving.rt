@@ -1,102 +1,70 @@
-//! Arming a keeper and serving a whole list of calls with it.
-ghost use Rattle.std.specs.Prelude.{◌≡◌, ◌≤◌, [], length, vec_capacity};
-ghost use Rattle.keeper.specs.Service.{answers as answers_of, after_calls};
-ghost use Rattle.keeper.specs.Serving.{Serving, KeptPromise};
-ghost use Rattle.keeper.specs.declared.serving.ServeFault.TheVariants.{Synthesis, Memory};
+//! Arming a keeper and serving a whole row of calls with it.
+ghost use Rattle.std.specs.Prelude.{◌≡◌, length};
+ghost use Rattle.game.specs.Game.{mark};
+ghost use Rattle.game.specs.Plays.{Safe};
+ghost use Rattle.game.specs.Maps.{turned_away};
+ghost use Rattle.game.specs.Answers.{told, map_after};
+ghost use Rattle.keeper.specs.Service.{calls, answered, after_calls};
+ghost use Rattle.keeper.specs.Promise.{OneAnswer};
+ghost use Rattle.keeper.specs.Serving.{served, row_after, KeptPromise};
 
 use crate::arming::{Armed, synthesise};
-use crate::service::{Answer, Call, Keeper, perform};
+use crate::service::{Exchange, Keeper, perform};
 use game::board::Board;
 use game::solution::{Refusal, Tally};
-use std::alloc::{AllocError, Global};
 use traffic::Traffic;
 
-/// The keeper after all calls, and the answer of each.
+/// What synthesis tells of all states, and the keeper after all calls.
 #[derive(Drop)]
 pub struct Served {
     pub tally: Tally,
     pub keeper: Keeper,
-    pub answers: Vec<Answer>,
 }
 
-/// Why a list of calls is not served.
-// Not one generic enum with LoadFault of the tables: each names its own cause, and clauses name the case.
-#[derive(Clone, Copy, PartialEq, Eq, Debug)]
-pub enum ServeFault {
-    Synthesis(Refusal),
-    Memory,
-}
-
-// By hand, since clauses name the fault that a `?` makes, and a derived From says nothing of it.
-impl From<Refusal> for ServeFault {
-    ghost from_gives = { λ e r. r ≡ Synthesis e };
-
-    fn from(e: Refusal) -> ServeFault {
-        ServeFault::Synthesis(e)
-    }
-}
-
-impl From<AllocError> for ServeFault {
-    ghost from_gives = { λ _ r. r ≡ Memory };
-
-    fn from(_e: AllocError) -> ServeFault {
-        ServeFault::Memory
-    }
-}
-
-// Performs the calls in order and notes the answers, for which there is room.
-fn perform_all<T: Traffic>(
-    board: Board<'_, T>,
-    armed: Keeper,
-    room: Vec<Answer>,
-    calls: &[Call],
-) -> (Keeper, Vec<Answer>)
-    requires { (room.items ≡ []) × (length calls.now ≤ vec_capacity room) }
-    ensures keeper { result.0 ≡ after_calls (T.meaning board.entry.traffic.now) board.entry.map.now armed calls.now }
-    ensures answers { result.1.items ≡ answers_of (T.meaning board.entry.traffic.now) board.entry.map.now armed calls.now }
+// Performs the calls in order and notes the answer of each.
+fn perform_all<T: Traffic>(board: Board<'_, T>, armed: Keeper, exchanges: &mut [Exchange]) -> Keeper
+    ensures keeper { result ≡ after_calls (T.meaning board.entry.traffic.now) board.entry.map.now armed (calls exchanges.old) }
+    ensures row { exchanges.new ≡ answered (T.meaning board.entry.traffic.now) board.entry.map.now armed exchanges.old }
 {
     let mut keeper = armed;
-    let mut answers = room;
-    for call in calls {
-        let (next, answer) = perform(keeper, board, *call);
+    for exchange in exchanges.iter_mut() {
+        let (next, answer) = perform(keeper, board, exchange.call);
         keeper = next;
-        answers.push_reserved(answer);
+        exchange.answer = Some(answer);
     }
-    (keeper, answers)
+    keeper
 }
 
-// The answers, the keeper and the map afterwards. Apart from serve, so that the guarantee is proved over one exit.
+// The answer, the row and the map afterwards. Apart from serve, so that the guarantee is proved over one exit.
 fn arm_and_perform<T: Traffic>(
-    heap: Global,
     traffic: &T,
     start: usize,
     map: &mut [u16],
-    calls: &[Call],
-) -> Result<Served, ServeFault>
-    ensures { Serving (T.meaning traffic.now) start calls.now map.old map.new result }
+    exchanges: &mut [Exchange],
+) -> Result<Served, Refusal>
+    ensures answer { result ≡ served (T.meaning traffic.now) start map.old (calls exchanges.old) }
+    ensures row { exchanges.new ≡ row_after (T.meaning traffic.now) start map.old exchanges.old }
+    ensures after { map.new ≡ map_after (T.meaning traffic.now) start map.old }
 {
-    let room = Vec::with_capacity(heap, calls.len())?;
     let Armed { keeper, tally } = synthesise(traffic, start, map)?;
     let board = Board { traffic, map };
-    let (keeper, answers) = perform_all(board, Keeper::Ready(keeper), room, calls);
-    Ok(Served {
-        tally,
-        keeper,
-        answers,
-    })
+    let keeper = perform_all(board, Keeper::Ready(keeper), exchanges);
+    Ok(Served { tally, keeper })
 }
 
-/// Arms a keeper at the start, then performs the calls in order and answers each. A call out of turn is answered so and
-/// changes nothing. For want of memory nothing is done.
+/// Arms a keeper at the start, then performs the calls of the row in order and notes the answer of each beside it. A call
+/// out of turn is answered so and changes nothing. Where no keeper is armed the row stays as it was.
 pub fn serve<T: Traffic>(
-    heap: Global,
     traffic: &T,
     start: usize,
     map: &mut [u16],
-    calls: &[Call],
-) -> Result<Served, ServeFault>
-    ensures value { Serving (T.meaning traffic.now) start calls.now map.old map.new result }
-    ensures guarantee { KeptPromise (T.meaning traffic.now) start calls.now map.old map.new result }
+    exchanges: &mut [Exchange],
+) -> Result<Served, Refusal>
+    ensures answer { result ≡ served (T.meaning traffic.now) start map.old (calls exchanges.old) }
+    ensures row { exchanges.new ≡ row_after (T.meaning traffic.now) start map.old exchanges.old }
+    ensures after { map.new ≡ map_after (T.meaning traffic.now) start map.old }
+    ensures guarantee { KeptPromise told (turned_away (T.meaning traffic.now) (length map.old) start) (T.meaning traffic.now) start map.new (calls exchanges.old) exchanges.new result }
+    ensures one_answer { OneAnswer (T.meaning traffic.now) (Safe (T.meaning traffic.now)) (mark (T.meaning traffic.now)) }
 {
-    arm_and_perform(heap, traffic, start, map, calls)
+    arm_and_perform(traffic, start, map, exchanges)
 }

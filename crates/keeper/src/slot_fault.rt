@@ -1,6 +1,6 @@
 //! Why a grant or a report is turned away.
 ghost use Rattle.std.specs.Prelude.{◌≡◌};
-ghost use Rattle.keeper.specs.Faults.{number};
+ghost use Rattle.keeper.specs.Faults.{told};
 ghost use Rattle.keeper.specs.declared.slot_fault.SlotFault.TheVariants.{Map};
 
 use game::map_fault::MapFault;
@@ -26,7 +26,7 @@ impl SlotFault {
     /// The refusal's number.
     // A method: u8::from(fault) would not say that it is the refusal's number.
     pub fn number(self) -> u8
-        ensures { result ≡ number self }
+        ensures { result ≡ (told self).number }
     {
         match self {
             SlotFault::Map(fault) => fault.number(),

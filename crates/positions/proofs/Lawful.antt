@@ -5,8 +5,9 @@ use Rattle.traffic.specs.Meaning.{Lawful}
 use Rattle.traffic.specs.Answered.{within_limits}
 use Rattle.game.specs.Game.{mark}
 use Rattle.game.specs.Laws.{MarksTell}
-use Rattle.game.specs.Answers.{tally, judged, answer_unless}
+use Rattle.game.specs.Answers.{tally, judged}
 use Rattle.game.proofs.Admitted.{not_turned_away}
+use Rattle.game.proofs.Solved.{solved_open}
 use Rattle.game.proofs.Kept.{legal_low}
 use Rattle.game.proofs.Rules.{permitted_legal, marks_tell}
 use Rattle.keeper.specs.Arming.{armed}
@@ -38,8 +39,8 @@ module _ (p : Places) (l : LawfulSite p) where
   -- what `solved` answers by the mark of state 0, and what that mark says of rules
   synthesis : within_limits (site_meaning p) ≡ true → Synthesis p (armed 0 (judged (mark (site_meaning p) 0) (tally (site_meaning p))))
   synthesis few map room =
-      ap (λ o. armed 0 (answer_unless o (site_meaning p) 0))
-      (not_turned_away (site_meaning p) (length map) 0 (record { limits = few; room = room; inside = law.inhabited }))
+      ap (armed 0)
+      (solved_open (site_meaning p) 0 map (not_turned_away (site_meaning p) (length map) 0 (record { limits = few; room = room; inside = law.inhabited })))
 
   tell : MarksTell (site_meaning p)
   tell = marks_tell (site_meaning p) law

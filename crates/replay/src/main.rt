@@ -7,10 +7,9 @@
 #![tactic(auto)]
 
 use anyhow::anyhow;
-use keeper::service::Call;
-use keeper::serving::{ServeFault, Served, serve};
+use keeper::service::{Call, Exchange, Keeper};
+use keeper::serving::serve;
 use site::site::Site;
-use std::alloc::AllocError;
 use std::{env, fs, io};
 
 fn number(word: &str) -> Option<usize> {
@@ -56,25 +55,27 @@ fn read_call(line: &str) -> Option<Call> {
     }
 }
 
-fn read_calls(rt: &HostRuntime, name: &str) -> anyhow::Result<Vec<Call>> {
+fn read_calls(rt: &HostRuntime, name: &str) -> anyhow::Result<Vec<Exchange>> {
     let text = fs::read_to_string(rt, name)?;
-    let mut calls = Vec::new(rt.alloc());
+    let mut exchanges = Vec::new(rt.alloc());
     for (i, line) in text.as_str().lines().enumerate() {
         if line.is_empty() || line.starts_with('#') {
             continue;
         }
         let at = i + 1;
         let call = read_call(line).ok_or_else(|| anyhow!("line {at} of {name} is no call"))?;
-        calls.push(call)?;
+        exchanges.push(Exchange { call, answer: None })?;
     }
-    Ok(calls)
+    Ok(exchanges)
 }
 
-fn print_served(rt: &HostRuntime, calls: &[Call], served: &Served) -> io::Result<()> {
-    for (call, answer) in calls.iter().zip(&served.answers) {
-        println!(rt; "{call}: {answer}")?;
+fn print_served(rt: &HostRuntime, exchanges: &[Exchange], keeper: &Keeper) -> io::Result<()> {
+    for Exchange { call, answer } in exchanges {
+        if let Some(answer) = answer {
+            println!(rt; "{call}: {answer}")?;
+        }
     }
-    println!(rt; "{}", served.keeper)
+    println!(rt; "{keeper}")
 }
 
 fn replay_on(
@@ -82,12 +83,11 @@ fn replay_on(
     site: &Site,
     start: usize,
     map: &mut [u16],
-    calls: &[Call],
+    exchanges: &mut [Exchange],
 ) -> anyhow::Result<()> {
-    match serve(rt.alloc(), site, start, map, calls) {
-        Ok(served) => print_served(rt, calls, &served)?,
-        Err(ServeFault::Synthesis(refusal)) => println!(rt; "{refusal}")?,
-        Err(ServeFault::Memory) => return Err(AllocError.into()),
+    match serve(site, start, map, exchanges) {
+        Ok(served) => print_served(rt, exchanges, &served.keeper)?,
+        Err(refusal) => println!(rt; "{refusal}")?,
     }
     Ok(())
 }
@@ -97,9 +97,9 @@ fn replay(rt: &HostRuntime, site: &str, start: &str, calls: &str) -> anyhow::Res
     let start = number(start).ok_or_else(|| anyhow!("a start is a number"))?;
     let file = fs::read(rt, site)?;
     let site = Site::read(rt.alloc(), &file).map_err(|_| anyhow!("a file is no site file"))?;
-    let calls = read_calls(rt, calls)?;
+    let mut exchanges = read_calls(rt, calls)?;
     let mut map = [0u16; 32768];
-    replay_on(rt, &site, start, &mut map, &calls)
+    replay_on(rt, &site, start, &mut map, &mut exchanges)
 }
 
 fn run(rt: &HostRuntime) -> anyhow::Result<()> {

@@ -9,17 +9,21 @@ use Rattle.site_read.specs.Sites.{site}
 use Rattle.site_read.proofs.Sound.{never, same_ok}
 use Rattle.site_read.proofs.Files.{files_are_read, only_files_are_read}
 use Rattle.site.specs.SiteTraffic.{site_meaning}
-use Rattle.site.specs.SiteLaws.{places_lawful, within_is, states_within}
+use Rattle.site.specs.SiteLaws.{places_lawful, within_is}
 use Rattle.game.specs.declared.map_fault.MapFault.{MapFault}
+use Rattle.game.specs.declared.solution.Tally.{Tally}
+use Rattle.game.specs.declared.solution.Refusal.{Refusal}
+use Rattle.game.specs.declared.solution.Refusal.TheVariants.{Map}
 use Rattle.game.specs.Game.{mark}
+use Rattle.game.specs.Refusals.{unless}
 use Rattle.game.specs.Maps.{turned_away}
-use Rattle.game.specs.Answers.{tally, judged, answer_unless}
+use Rattle.game.specs.Answers.{tally, judged}
 use Rattle.keeper.specs.Arming.{armed}
 use Rattle.game.proofs.Rounds.{unmarked_lasts}
 use Rattle.game.proofs.Rules.{lasts_permitted, marks_tell}
-use Rattle.game.proofs.Admitted.{not_turned_away}
+use Rattle.game.proofs.Admitted.{not_turned_away, admitted}
 use Rattle.verdict.specs.declared.Verdict.{Verdict}
-use Rattle.verdict.specs.Verdicts.{ruled, counted_verdict, verdict_by, Judged}
+use Rattle.verdict.specs.Verdicts.{ruled, verdict_by, Judged}
 use Rattle.verdict.specs.Tells.{GameOf, Tells}
 
 module _ (file : List ℕ) (bytes : Bytes file) (map : List ℕ) where
@@ -30,7 +34,11 @@ module _ (file : List ℕ) (bytes : Bytes file) (map : List ℕ) where
       let same : p ≡ p' = same_ok p p' (sym q ∙ ap site f ∙ files_are_read p' l) in
       subst (λ (x : Places). (32768 < (site_meaning x).states) ⊎ (length map < (site_meaning x).states)) same big
 
-  module _ (p : Places) (q : site file ≡ Ok p) (few : (site_meaning p).states ≤ 32768) where
+  -- what synthesis answers, unless it is turned away
+  abbrev answer_unless : Option MapFault → Places → Result Tally Refusal
+  answer_unless away p = unless (λ f. Err (Map f)) away (judged (mark (site_meaning p) 0) (tally (site_meaning p)))
+
+  module _ (p : Places) (q : site file ≡ Ok p) where
     l : LawfulSite p
     l = (only_files_are_read file bytes p q).0
 
@@ -40,45 +48,45 @@ module _ (file : List ℕ) (bytes : Bytes file) (map : List ℕ) where
     inside : 0 < (site_meaning p).states
     inside = law.inhabited
 
-    game : GameOf file (site_meaning p).states (tally (site_meaning p)) p
-    game = record { lawful = l; written = (only_files_are_read file bytes p q).1; states = refl; few = few; won = refl; lasted = refl }
+    game : (site_meaning p).states ≤ 32768 → GameOf file (site_meaning p).states (tally (site_meaning p)) p
+    game few = record { lawful = l; written = (only_files_are_read file bytes p q).1; states = refl; few = few; won = refl; lasted = refl }
 
-    by_mark : (m : ℕ) → mark (site_meaning p) 0 ≡ m → Tells file (length map) (ruled (site_meaning p).states (armed 0 (judged m (tally (site_meaning p)))))
-    by_mark zero e =
+    by_mark : (site_meaning p).states ≤ 32768 → (m : ℕ) → mark (site_meaning p) 0 ≡ m → Tells file (length map) (ruled (site_meaning p).states (armed 0 (judged m (tally (site_meaning p)))))
+    by_mark few zero e =
         let move = lasts_permitted (site_meaning p) 0 (unmarked_lasts (site_meaning p) 0 inside e) in
-        (p, game, (move.0, ((marks_tell (site_meaning p) law).permit 0 move.0 inside).0 move.1))
-    by_mark (suc k) e = (
+        (p, game few, (move.0, ((marks_tell (site_meaning p) law).permit 0 move.0 inside).0 move.1))
+    by_mark few (suc k) e = (
       p,
-      game,
+      game few,
       ((marks_tell (site_meaning p) law).decide 0 inside).0 (λ z. omega arith),
       (marks_tell (site_meaning p) law).count 0 k inside e,
     )
 
-    by_room : (o : Option MapFault) → turned_away (site_meaning p) (length map) 0 ≡ o → Tells file (length map) (ruled (site_meaning p).states (armed 0 (answer_unless o (site_meaning p) 0)))
-    by_room None e = by_mark (mark (site_meaning p) 0) refl
-    by_room (Some f) e = refuses p q (inr short)
-      where
-        short : length map < (site_meaning p).states
-        short =
-            elim (cases_lt (length map) (site_meaning p).states) [
-              | inl h ↦ h
-              | inr h ↦
-                  let clear = not_turned_away (site_meaning p) (length map) 0 (record { limits = within_is p ∙ le-leb _ _ few; room = omega arith; inside = inside }) in
-                  let no : ◌≡◌ {A = ℕ} 0 1 = cc in
-                  absurd (omega arith)
-            ]
+    -- a site that synthesis turns away has too many states
+    too_many : (f : MapFault) → turned_away (site_meaning p) (length map) 0 ≡ Some f → (32768 < (site_meaning p).states) ⊎ (length map < (site_meaning p).states)
+    too_many f e =
+        elim (cases_lt 32768 (site_meaning p).states) [
+          | inl h ↦ inl h
+          | inr few ↦
+              elim (cases_lt (length map) (site_meaning p).states) [
+                | inl h ↦ inr h
+                | inr h ↦
+                    let clear = not_turned_away (site_meaning p) (length map) 0 (record { limits = within_is p ∙ le-leb _ _ few; room = omega arith; inside = inside }) in
+                    let no : ◌≡◌ {A = ℕ} 0 1 = cc in
+                    absurd (omega arith)
+              ]
+        ]
 
-  accepted : (p : Places) → site file ≡ Ok p → (b : Bool) → leb (site_meaning p).states 32768 ≡ b → Tells file (length map) (counted_verdict (cond b (Some (site_meaning p).states) None) (armed 0 (answer_unless (turned_away (site_meaning p) (length map) 0) (site_meaning p) 0)))
-  accepted p q true e = by_room p q (leb-true (site_meaning p).states 32768 e) (turned_away (site_meaning p) (length map) 0) refl
-  accepted p q false e = refuses p q (inl (leb-false (site_meaning p).states 32768 e))
+    by_room : (o : Option MapFault) → turned_away (site_meaning p) (length map) 0 ≡ o → Tells file (length map) (ruled (site_meaning p).states (armed 0 (answer_unless o p)))
+    by_room None e =
+        by_mark (leb-true _ _ (sym (within_is p) ∙ (admitted (site_meaning p) (length map) 0 e).limits)) (mark (site_meaning p) 0) refl
+    by_room (Some f) e = refuses p q (too_many f e)
 
   told : Tells file (length map) (verdict_by (site file) map)
   told = go (site file) refl
     where
       go : (r : Result Places Fault) → site file ≡ r → Tells file (length map) (verdict_by r map)
-      go (Ok p) q =
-          subst (λ (o : Option ℕ). Tells file (length map) (counted_verdict o (armed 0 (answer_unless (turned_away (site_meaning p) (length map) 0) (site_meaning p) 0))))
-          (sym (states_within p)) (accepted p q (leb (site_meaning p).states 32768) refl)
+      go (Ok p) q = by_room p q (turned_away (site_meaning p) (length map) 0) refl
       go (Err e) q = λ p l f. absurd (never e p (sym q ∙ ap site f ∙ files_are_read p l))
 
   pub made_told : (r : Result Verdict AllocError) → Judged file map r → IfOk r (Tells file (length map))

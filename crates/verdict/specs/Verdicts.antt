@@ -1,7 +1,6 @@
 -- The verdict on a site file, the map afterwards, and the lines that say the verdict.
-use Rattle.std.specs.Prelude.{◌≡◌, ℕ, List, ◌++◌, Some, None, Ok, Err, codes, decimal, Option, Result}
+use Rattle.std.specs.Prelude.{◌≡◌, ℕ, List, ◌++◌, Ok, Err, codes, decimal, Result}
 use Rattle.std.specs.declared.alloc.AllocError.{AllocError}
-use Rattle.traffic.specs.Answered.{states_of}
 use Rattle.site_read.specs.declared.fault.Fault.{Fault}
 use Rattle.site_read.specs.Faults.{report, told, refusal}
 use Rattle.site_read.specs.Format.{Places}
@@ -10,34 +9,25 @@ use Rattle.site.specs.Loaded.{RegionLoopsRead}
 use Rattle.site.specs.SiteTraffic.{site_meaning}
 use Rattle.game.specs.declared.solution.Refusal.{Refusal}
 use Rattle.game.specs.declared.solution.Refusal.TheVariants.{NoSchedule as NoSchedule-found, Map}
-use Rattle.game.specs.Maps.{number}
+use Rattle.game.specs.Maps as maps
 use Rattle.game.specs.Answers.{solved, map_after}
 use Rattle.keeper.specs.declared.arming.Armed.{Armed}
 use Rattle.keeper.specs.Arming.{armed}
 use Rattle.verdict.specs.declared.Verdict.{Verdict}
 use Rattle.verdict.specs.declared.Verdict.TheVariants.{Schedule, NoSchedule, Refused}
 
--- what synthesis found, said of a site of n joint states; a map that it refuses is a refusal of the whole file
+-- what synthesis found, said of a site of n joint states; what turns it away is a refusal of the whole file
 abbrev pub ruled : ℕ → Result Armed Refusal → Verdict
 ruled n (Ok a) = Schedule n a.tally
 ruled n (Err (NoSchedule-found k t)) = NoSchedule n t k
-ruled n (Err (Map f)) = Refused (told (number f) 0 0)
-
--- a site over the limits is refused with number 9
-abbrev pub counted_verdict : Option ℕ → Result Armed Refusal → Verdict
-counted_verdict (Some n) found = ruled n found
-counted_verdict None found = Refused (told 9 0 0)
-
-abbrev pub counted_map : Option ℕ → List ℕ → List ℕ → List ℕ
-counted_map (Some n) before after = after
-counted_map None before after = before
+ruled n (Err (Map f)) = Refused (told (maps.told f).number 0 0)
 
 -- synthesis from joint state 0
 abbrev pub site_verdict : Places → List ℕ → Verdict
-site_verdict p map = counted_verdict (states_of (site_meaning p)) (armed 0 (solved (site_meaning p) 0 map))
+site_verdict p map = ruled (site_meaning p).states (armed 0 (solved (site_meaning p) 0 map))
 
 abbrev pub site_map : Places → List ℕ → List ℕ
-site_map p map = counted_map (states_of (site_meaning p)) map (map_after (site_meaning p) 0 map)
+site_map p map = map_after (site_meaning p) 0 map
 
 abbrev pub verdict_by : Result Places Fault → List ℕ → Verdict
 verdict_by (Ok p) map = site_verdict p map

@@ -1,7 +1,7 @@
 //! What a waiting keeper is asked: the report of the next state.
-ghost use Rattle.std.specs.Prelude.{◌≡◌, length};
-ghost use Rattle.game.specs.Maps.{turned_away, unless};
-ghost use Rattle.keeper.specs.Slots.{either, reported};
+ghost use Rattle.std.specs.Prelude.{◌≡◌, Ok, Err};
+ghost use Rattle.game.specs.Refusals.{unless};
+ghost use Rattle.keeper.specs.Slots.{unreportable, reported};
 
 use crate::slot::{Ready, Waiting};
 use crate::slot_fault::SlotFault;
@@ -26,7 +26,7 @@ impl Waiting {
 
     // Whether a state is a next state of the granted move.
     fn takes<T: Traffic>(&self, board: Board<'_, T>, to: usize) -> Result<bool, MapFault>
-        ensures { result ≡ unless (either (turned_away (T.meaning board.entry.traffic.now) (length board.entry.map.now) self.now.state) (turned_away (T.meaning board.entry.traffic.now) (length board.entry.map.now) to)) ((T.meaning board.entry.traffic.now).leads self.now.state self.now.mv to) }
+        ensures { result ≡ unless Err (unreportable (T.meaning board.entry.traffic.now) board.entry.map.now self.now.state to) (Ok ((T.meaning board.entry.traffic.now).leads self.now.state self.now.mv to)) }
     {
         board.admit(self.state)?;
         board.admit(to)?;
