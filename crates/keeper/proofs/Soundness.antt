@@ -1,7 +1,6 @@
 -- Whoever serves calls as promised keeps a sound course.
 use Rattle.std.proofs.Common.{◌≡◌, ℕ, ◌<◌, true, false, sym, refl, subst}
-use Rattle.traffic.specs.Meaning.{Meaning, Lawful, legal}
-use Rattle.game.specs.Game.{jam}
+use Rattle.traffic.specs.Meaning.{Meaning, Lawful, jam, legal}
 use Rattle.game.specs.Plays.{Past, begin}
 use Rattle.game.proofs.Kept.{legal_no_jam}
 use Rattle.game.proofs.Rules.{play_in}

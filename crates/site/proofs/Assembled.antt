@@ -9,13 +9,14 @@ use Rattle.site_read.specs.Sites.{piece_table, file_tables, site}
 use Rattle.site_read.proofs.Sound.{never, same_ok, then_ok}
 use Rattle.site_read.proofs.Whole.{whole, records_accepted}
 use Rattle.site_read.proofs.Files.{files_are_read, only_files_are_read}
+use Rattle.site_read.proofs.SiteFaults.{faults_are_told}
 use Rattle.loops.specs.declared.load_fault.LoadFault.{LoadFault}
 use Rattle.loops.specs.declared.load_fault.LoadFault.TheVariants.{File, Memory}
 use Rattle.loops.specs.Loading.{Holds, RegionLoopRead}
 use Rattle.loops.specs.Places.{place_table}
 use Rattle.site.specs.declared.site.Site.{Site}
 use Rattle.site.specs.Held.{is_region_loop, has_region_loop}
-use Rattle.site.specs.Loaded.{site_places, RegionLoopsRead, Accepted, FileIsRead}
+use Rattle.site.specs.Loaded.{site_places, RegionLoopsRead, Accepted, FileIsRead, FaultIsTold}
 
 pub assembled : (file : List ℕ) (p : Pieces) (a b c d : Option Table) → Ok p ≡ pieces file → piece_table 1 (length file) p.first ≡ Ok a → piece_table 2 (length file) p.second ≡ Ok b → piece_table 3 (length file) p.third ≡ Ok c → piece_table 4 (length file) p.fourth ≡ Ok d → file_tables file ≡ Ok (record { first = a; second = b; third = c; fourth = d })
 assembled file p a b c d e h₁ h₂ h₃ h₄ = rw (← e, h₁, h₂, h₃, h₄) refl
@@ -93,6 +94,18 @@ pub accepted : (file : List ℕ) → Bytes file → (r : Result Site LoadFault) 
 accepted file h (Ok s) q = only_files_are_read file h (site_places s) q
 accepted file h (Err (File e)) q = λ p l f. never e p (sym q ∙ ap site f ∙ files_are_read p l)
 accepted file h (Err Memory) q = let w = only_files_are_read file h q.0 q.1 in (q.0, w.0, w.1, q.2)
+
+-- what is answered is the file's fault
+pub fault_is_told : (file : List ℕ) → Bytes file → (r : Result Site LoadFault) → Holds site_places (RegionLoopsRead (site file)) (site file) r → FaultIsTold file r
+fault_is_told file h (Ok s) q fault = (
+  λ e. cc,
+  λ w. never fault (site_places s) (sym ((faults_are_told file h fault).1 w) ∙ q),
+)
+fault_is_told file h (Err (File x)) q fault = (
+  λ e. let same : x ≡ fault = cc in (faults_are_told file h fault).0 (q ∙ ap Err same),
+  λ w. let is = (faults_are_told file h fault).1 w in let same : x ≡ fault = cc in ap (λ (y : Fault). Err (File y)) same,
+)
+fault_is_told file h (Err Memory) q fault = (λ e. cc, λ w. never fault q.0 (sym ((faults_are_told file h fault).1 w) ∙ q.1))
 
 -- and every file of a site is read so
 pub file_is_read : (file : List ℕ) (r : Result Site LoadFault) → Holds site_places (RegionLoopsRead (site file)) (site file) r → FileIsRead file r

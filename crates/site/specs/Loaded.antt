@@ -1,7 +1,8 @@
 -- What loading a file leaves, and which files are accepted.
-use Rattle.std.specs.Prelude.{◌≡◌, ℕ, true, List, [], ◌∷◌, Ok, Err, Result, ◌≢◌}
+use Rattle.std.specs.Prelude.{◌≡◌, ℕ, true, List, [], ◌∷◌, Ok, Err, Result, ◌≢◌, ◌↔◌}
 use Rattle.site_read.specs.declared.fault.Fault.{Fault}
 use Rattle.site_read.specs.Format.{Places, LawfulSite, file_of}
+use Rattle.site_read.specs.Beginnings.{FaultIn}
 use Rattle.loops.specs.declared.load_fault.LoadFault.{LoadFault}
 use Rattle.loops.specs.declared.load_fault.LoadFault.TheVariants.{File, Memory}
 use Rattle.loops.specs.declared.place.Place.{Place}
@@ -41,6 +42,10 @@ ReadAs p (Err Memory) = has_region_loop p ≡ true
 -- the file of a lawful site is accepted, as that site
 abbrev pub FileIsRead : List ℕ → Result Site LoadFault → Type 0
 FileIsRead file r = (p : Places) → LawfulSite p → file ≡ file_of p → ReadAs p r
+
+-- the file's fault is answered, and no other: a file that has none is not refused
+abbrev pub FaultIsTold : List ℕ → Result Site LoadFault → Type 0
+FaultIsTold file r = (fault : Fault) → (r ≡ Err (File fault)) ↔ FaultIn file fault
 
 -- a load that leaves the site `new`, as a reading of that site
 abbrev pub leaving : Site → Result (Unit {0}) LoadFault → Result Site LoadFault

@@ -4,27 +4,34 @@ use Rattle.std.proofs.lemmas.Bool.{leb-true, leb-false, le-leb, cases_lt}
 use Rattle.std.specs.declared.alloc.AllocError.{AllocError}
 use Rattle.traffic.specs.Meaning.{Lawful}
 use Rattle.site_read.specs.declared.fault.Fault.{Fault}
+use Rattle.site_read.specs.declared.fault.Report.{Report}
+use Rattle.site_read.specs.Faults.{report}
+use Rattle.site_read.specs.Beginnings.{FaultIn}
 use Rattle.site_read.specs.Format.{Bytes, Places, LawfulSite, file_of}
 use Rattle.site_read.specs.Sites.{site}
 use Rattle.site_read.proofs.Sound.{never, same_ok}
 use Rattle.site_read.proofs.Files.{files_are_read, only_files_are_read}
+use Rattle.site_read.proofs.SiteFaults.{faults_are_told}
 use Rattle.site.specs.SiteTraffic.{site_meaning}
 use Rattle.site.specs.SiteLaws.{places_lawful, within_is}
 use Rattle.game.specs.declared.map_fault.MapFault.{MapFault}
+use Rattle.game.specs.declared.map_fault.MapFault.TheVariants.{OverLimits, ShortMap, NoSuchState}
 use Rattle.game.specs.declared.solution.Tally.{Tally}
 use Rattle.game.specs.declared.solution.Refusal.{Refusal}
-use Rattle.game.specs.declared.solution.Refusal.TheVariants.{Map}
+use Rattle.game.specs.declared.solution.Refusal.TheVariants.{Map, NoSchedule}
 use Rattle.game.specs.Game.{mark}
 use Rattle.game.specs.Refusals.{unless}
 use Rattle.game.specs.Maps.{turned_away}
 use Rattle.game.specs.Answers.{tally, judged}
+use Rattle.keeper.specs.declared.arming.Armed.{Armed}
 use Rattle.keeper.specs.Arming.{armed}
 use Rattle.game.proofs.Rounds.{unmarked_lasts}
 use Rattle.game.proofs.Rules.{lasts_permitted, marks_tell}
 use Rattle.game.proofs.Admitted.{not_turned_away, admitted}
 use Rattle.verdict.specs.declared.Verdict.{Verdict}
+use Rattle.verdict.specs.declared.Verdict.TheVariants.{Refused}
 use Rattle.verdict.specs.Verdicts.{ruled, verdict_by, Judged}
-use Rattle.verdict.specs.Tells.{GameOf, Tells}
+use Rattle.verdict.specs.Tells.{GameOf, Tells, FaultIsTold}
 
 module _ (file : List ℕ) (bytes : Bytes file) (map : List ℕ) where
   -- what a refused file tells: the site that it is of, if any, has too many states
@@ -88,6 +95,25 @@ module _ (file : List ℕ) (bytes : Bytes file) (map : List ℕ) where
       go : (r : Result Places Fault) → site file ≡ r → Tells file (length map) (verdict_by r map)
       go (Ok p) q = by_room p q (turned_away (site_meaning p) (length map) 0) refl
       go (Err e) q = λ p l f. absurd (never e p (sym q ∙ ap site f ∙ files_are_read p l))
+
+  -- a refusal of a site that was read has a number above those of faults
+  above_faults : (n : ℕ) (found : Result Armed Refusal) (x : Report) → ruled n found ≡ Refused x → x.number ≤ 8 → ⊥
+  above_faults n (Ok a) x e h = cc
+  above_faults n (Err (NoSchedule k t)) x e h = cc
+  above_faults n (Err (Map OverLimits)) x e h = let same : 9 ≡ x.number = cc in omega arith
+  above_faults n (Err (Map ShortMap)) x e h = let same : 10 ≡ x.number = cc in omega arith
+  above_faults n (Err (Map NoSuchState)) x e h = let same : 11 ≡ x.number = cc in omega arith
+
+  pub fault_told : (r : Result Verdict AllocError) → Judged file map r → FaultIsTold file r
+  fault_told (Ok v) j = (
+    λ fault w. ap Ok (j ∙ ap (λ s. verdict_by s map) ((faults_are_told file bytes fault).1 w)),
+    λ told e h. go told (site file) refl (let same : v ≡ Refused told = cc in sym j ∙ same) h,
+  )
+    where
+      go : (told : Report) (s : Result Places Fault) → site file ≡ s → verdict_by s map ≡ Refused told → told.number ≤ 8 → (fault : Fault) × FaultIn file fault × (report fault ≡ told)
+      go told (Ok p) q e h = absurd (above_faults _ _ told e h)
+      go told (Err fault) q e h = (fault, (faults_are_told file bytes fault).0 q, (let same : report fault ≡ told = cc in same))
+  fault_told (Err y) j = (λ fault w. never fault j.0 (sym ((faults_are_told file bytes fault).1 w) ∙ j.1), λ told e h. cc)
 
   pub made_told : (r : Result Verdict AllocError) → Judged file map r → IfOk r (Tells file (length map))
   made_told (Ok v) j = subst (Tells file (length map)) (sym j) told

@@ -1,5 +1,10 @@
 -- What a verdict says of a file.
-use Rattle.std.specs.Prelude.{◌≡◌, ℕ, ◌<◌, ◌≤◌, ◌⊎◌, List}
+use Rattle.std.specs.Prelude.{◌≡◌, ℕ, ◌<◌, ◌≤◌, ◌⊎◌, List, Ok, Result}
+use Rattle.std.specs.declared.alloc.AllocError.{AllocError}
+use Rattle.site_read.specs.declared.fault.Fault.{Fault}
+use Rattle.site_read.specs.declared.fault.Report.{Report}
+use Rattle.site_read.specs.Faults.{report}
+use Rattle.site_read.specs.Beginnings.{FaultIn}
 use Rattle.site_read.specs.Format.{Places, LawfulSite, file_of}
 use Rattle.site.specs.SiteTraffic.{site_meaning}
 use Rattle.game.specs.Filling.{winning, rounds}
@@ -17,6 +22,12 @@ pub record GameOf (file : List ℕ) (n : ℕ) (t : Tally) (p : Places) : Type 0 
   pub few : n ≤ 32768
   pub won : t.winning ≡ winning (site_meaning p)
   pub lasted : t.rounds ≡ rounds (site_meaning p)
+
+-- the file is refused for its fault; and a refusal by a fault's number, 1 to 8, is for its fault
+abbrev pub FaultIsTold : List ℕ → Result Verdict AllocError → Type 0
+FaultIsTold file r =
+    ((fault : Fault) → FaultIn file fault → r ≡ Ok (Refused (report fault)))
+    × ((told : Report) → r ≡ Ok (Refused told) → told.number ≤ 8 → (fault : Fault) × FaultIn file fault × (report fault ≡ told))
 
 -- A schedule: some move is safe in state 0. No schedule: every rule is led into a jam from state 0, and the count is the
 -- least number of checks within which every rule is. Refused: every lawful site that has this file, if there is one, has

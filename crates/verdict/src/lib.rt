@@ -5,7 +5,7 @@ ghost use Rattle.std.specs.Prelude.{◌≡◌, length, IfOk, Some};
 ghost use Rattle.site_read.specs.Faults.{told};
 ghost use Rattle.site.specs.Loaded.{site_places};
 ghost use Rattle.verdict.specs.Verdicts.{ruled, site_verdict, site_map, Judged, judged_map, lines};
-ghost use Rattle.verdict.specs.Tells.{Tells};
+ghost use Rattle.verdict.specs.Tells.{Tells, FaultIsTold};
 ghost use Rattle.verdict.specs.declared.Verdict.TheVariants.{Refused};
 
 use game::solution::{Refusal, Tally};
@@ -122,6 +122,7 @@ impl Verdict {
         ensures value { Judged file.now map.old result }
         ensures after { map.new ≡ judged_map file.now map.old result }
         ensures tells { IfOk result (Tells file.now (length map.old)) }
+        ensures fault { FaultIsTold file.now result }
     {
         Verdict::judge(heap, file, map)
     }

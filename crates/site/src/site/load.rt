@@ -2,7 +2,7 @@
 ghost use Rattle.std.specs.Prelude.{◌≡◌};
 ghost use Rattle.site_read.specs.Sites.{file_tables, site};
 ghost use Rattle.loops.specs.Loading.{Holds};
-ghost use Rattle.site.specs.Loaded.{site_places, RegionLoopsRead, Loaded, Accepted, FileIsRead, leaving};
+ghost use Rattle.site.specs.Loaded.{site_places, RegionLoopsRead, Loaded, Accepted, FileIsRead, FaultIsTold, leaving};
 
 use crate::site::Site;
 use loops::load_fault::LoadFault;
@@ -44,6 +44,7 @@ impl Site {
         ensures read { Holds site_places (RegionLoopsRead (site file.now)) (site file.now) result }
         ensures accepted { Accepted file.now result }
         ensures file { FileIsRead file.now result }
+        ensures fault { FaultIsTold file.now result }
     {
         Site::from_records(heap, file)
     }
@@ -55,6 +56,7 @@ impl Site {
         ensures loaded { Loaded (site file.now) self.old self.new result }
         ensures accepted { Accepted file.now (leaving self.new result) }
         ensures file { FileIsRead file.now (leaving self.new result) }
+        ensures fault { FaultIsTold file.now (leaving self.new result) }
     {
         *self = Site::read(heap, file)?;
         Ok(())
