@@ -40,12 +40,9 @@ pub stops : {Y X W Z : Type 0} (f : Y → X) (g : W → Z) (s : Parsed X) (s' : 
 stops f g s s' (File e) k h = k e h
 stops f g s s' Memory k h = tt
 
--- what was skipped without a fault was read
-pub value_from_rest : {X : Type 0} (r : Parsed X) (rest : List ℕ) → Ok rest ≡ rest_of r → (x : X) × (value_of r ≡ Ok x)
-value_from_rest (Ok p) rest q = (p.0, refl)
-value_from_rest (Err e) rest q = never e rest (sym q)
-
--- and then only want of memory can keep its table from being made
-pub wants_nothing_faulty : {Y X W Z : Type 0} (f : Y → X) (g : W → Z) (s : Result X Fault) (s' : Result Z Fault) → ((e : Fault) → s' ≡ Err e → s ≡ Err e) → (x : X) × (s ≡ Ok x) → (y : LoadFault) → Holds g (Unit {0}) s' (Err y) → Holds f ((x : X) × (s ≡ Ok x)) s (Err y)
-wants_nothing_faulty f g s s' k read (File e) h = k e h
-wants_nothing_faulty f g s s' k read Memory h = read
+-- where everything was skipped without a fault, only want of memory can keep the table from being made
+pub wants_nothing_faulty : {Y X : Type 0} (f : Y → X) (s : Parsed X) (rest : List ℕ) (r : Result Y LoadFault) → Ok rest ≡ rest_of s → Holds f (Unit {0}) (value_of s) r → Holds f ((x : X) × (value_of s ≡ Ok x)) (value_of s) r
+wants_nothing_faulty f s rest (Ok y) q h = h
+wants_nothing_faulty f s rest (Err (File e)) q h = h
+wants_nothing_faulty f (Ok p) rest (Err Memory) q h = (p.0, refl)
+wants_nothing_faulty f (Err e) rest (Err Memory) q h = never e rest (sym q)

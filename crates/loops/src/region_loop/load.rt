@@ -38,11 +38,10 @@ fn load_rows(
 }
 
 impl RegionLoop {
-    /// The table in a region record's bytes, behind its kind. A fault of the record is found before any memory is wanted.
-    pub fn load(heap: Global, reader: RecordReader, rest: &[u8]) -> Result<RegionLoop, LoadFault>
-        ensures { Holds table_of (RegionsRead (value_of (regions reader.place reader.size rest.now))) (value_of (regions reader.place reader.size rest.now)) result }
+    // Made as it is read, so that memory may be wanted before a fault is found.
+    fn make(heap: Global, reader: RecordReader, rest: &[u8]) -> Result<RegionLoop, LoadFault>
+        ensures { Holds table_of (Unit {0}) (value_of (regions reader.place reader.size rest.now)) result }
     {
-        reader.skip_regions(rest)?;
         let (count, rest) = reader.ranged(rest, 1, 16)?;
         let regions = RegionReader {
             record: reader,
@@ -50,5 +49,14 @@ impl RegionLoop {
         };
         let (regions, states) = load_rows(heap, regions, rest)?;
         Ok(RegionLoop { regions, states })
+    }
+
+    /// The table in a region record's bytes, behind its kind. A fault of the record is found before any memory is wanted.
+    #[tactic(auto, using(crate::proofs::Fill::wants_nothing_faulty))]
+    pub fn load(heap: Global, reader: RecordReader, rest: &[u8]) -> Result<RegionLoop, LoadFault>
+        ensures { Holds table_of (RegionsRead (value_of (regions reader.place reader.size rest.now))) (value_of (regions reader.place reader.size rest.now)) result }
+    {
+        reader.skip_regions(rest)?;
+        RegionLoop::make(heap, reader, rest)
     }
 }
