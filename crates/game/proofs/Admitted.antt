@@ -8,7 +8,7 @@ use Rattle.traffic.specs.Answered.{within_limits, sized}
 use Rattle.traffic.proofs.Asked.{within_parts}
 use Rattle.game.specs.declared.map_fault.MapFault.{MapFault}
 use Rattle.game.specs.declared.map_fault.MapFault.TheVariants.{OverLimits, ShortMap, NoSuchState}
-use Rattle.game.specs.Refusals.{unless}
+use Rattle.traffic.specs.Refusals.{unless}
 use Rattle.game.specs.Maps.{turned_away}
 
 -- a call that is not turned away is answered

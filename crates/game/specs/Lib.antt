@@ -3,7 +3,6 @@ pub mod Plays
 pub mod Laws
 pub mod Choice
 pub mod Standing
-pub mod Refusals
 pub mod Maps
 pub mod Counsel
 pub mod Supports

@@ -6,7 +6,7 @@ use Rattle.game.specs.declared.map_fault.MapFault.{MapFault}
 use Rattle.game.specs.declared.map_fault.MapFault.TheVariants.{OverLimits, ShortMap, NoSuchState}
 use Rattle.game.specs.Game.{mark}
 use Rattle.game.specs.Standing.{on}
-use Rattle.game.specs.Refusals.{first_unmet, unless, Told}
+use Rattle.traffic.specs.Refusals.{first_unmet, unless, Told}
 
 abbrev pub told : MapFault → Told
 told OverLimits = record { number = 9; values = [] }

@@ -6,7 +6,7 @@ ghost use Rattle.traffic.specs.Answered.{sized};
 ghost use Rattle.game.specs.Game.{permitted_by};
 ghost use Rattle.game.specs.Choice.{pick_by, spoiler_by};
 ghost use Rattle.game.specs.Standing.{on};
-ghost use Rattle.game.specs.Refusals.{unless};
+ghost use Rattle.traffic.specs.Refusals.{unless};
 ghost use Rattle.game.specs.Maps.{turned_away, unless_turned_away, Filled};
 ghost use Rattle.game.specs.Counsel.{ExactlySafe, LowestSafe, LeadsDown};
 

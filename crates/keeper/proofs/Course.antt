@@ -10,7 +10,7 @@ use Rattle.game.specs.Game.{permitted_by}
 use Rattle.game.specs.Choice.{pick_by, spoiler_by}
 use Rattle.game.specs.Plays.{Past, after}
 use Rattle.game.specs.Standing.{on}
-use Rattle.game.specs.Refusals.{unless}
+use Rattle.traffic.specs.Refusals.{unless}
 use Rattle.game.specs.Maps.{turned_away}
 use Rattle.game.proofs.Kept.{legal_low}
 use Rattle.game.proofs.Admitted.{not_turned_away, admitted, no_such_state}

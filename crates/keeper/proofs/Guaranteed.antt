@@ -8,7 +8,7 @@ use Rattle.game.specs.declared.solution.Refusal.TheVariants.{NoSchedule}
 use Rattle.game.specs.Game.{mark}
 use Rattle.game.specs.Plays.{begin, Safe}
 use Rattle.game.specs.Standing.{on}
-use Rattle.game.specs.Refusals.{Told}
+use Rattle.traffic.specs.Refusals.{Told}
 use Rattle.game.specs.Maps.{turned_away, Filled}
 use Rattle.game.specs.Filling.{filled}
 use Rattle.game.specs.Answers.{told, tally, judged, solved, map_after}

@@ -6,7 +6,7 @@ use Rattle.traffic.specs.Meaning.{Meaning}
 use Rattle.traffic.specs.Answered.{within_limits, next_of}
 use Rattle.traffic.proofs.Asked.{next_some, next_none}
 use Rattle.game.specs.declared.map_fault.MapFault.{MapFault}
-use Rattle.game.specs.Refusals.{unless}
+use Rattle.traffic.specs.Refusals.{unless}
 
 -- a state is a next state exactly when it is the least one not below itself
 pub told_next : (M : Meaning) (s m t : ℕ) → within_limits M ≡ true → t < M.states → (o : Option ℕ) → o ≡ next_of M s m t → option_eq eqb o (Some t) ≡ M.leads s m t

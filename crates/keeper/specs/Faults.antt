@@ -1,6 +1,6 @@
 -- What the keeper's refusals tell.
 use Rattle.std.specs.Prelude.{[]}
-use Rattle.game.specs.Refusals.{Told}
+use Rattle.traffic.specs.Refusals.{Told}
 use Rattle.game.specs.Maps as maps
 use Rattle.keeper.specs.declared.slot_fault.SlotFault.{SlotFault}
 use Rattle.keeper.specs.declared.slot_fault.SlotFault.TheVariants.{Map, NotPermitted, NoNextState}

@@ -6,7 +6,7 @@ use Rattle.game.specs.Game.{mark, permitted_by}
 use Rattle.game.specs.Plays.{Past, begin, Rule, Led, Safe}
 use Rattle.game.specs.Laws.{LeastCount}
 use Rattle.game.specs.Standing.{on}
-use Rattle.game.specs.Refusals.{Told}
+use Rattle.traffic.specs.Refusals.{Told}
 use Rattle.keeper.specs.declared.service.Keeper.TheVariants.{Ready as AtReady}
 use Rattle.keeper.specs.declared.service.Call.{Call}
 use Rattle.keeper.specs.declared.arming.Armed.{Armed}

@@ -4,7 +4,7 @@ use Rattle.traffic.specs.Meaning.{Meaning}
 use Rattle.game.specs.Game.{permitted_by}
 use Rattle.game.specs.Choice.{pick_by, spoiler_by}
 use Rattle.game.specs.Standing.{on}
-use Rattle.game.specs.Refusals.{unless}
+use Rattle.traffic.specs.Refusals.{unless}
 use Rattle.game.specs.Maps.{turned_away}
 use Rattle.keeper.specs.declared.slot.Ready.{Ready}
 use Rattle.keeper.specs.declared.slot.Waiting.{Waiting}

@@ -5,7 +5,7 @@ use Rattle.game.specs.declared.solution.Tally.{Tally}
 use Rattle.game.specs.declared.solution.Refusal.{Refusal}
 use Rattle.game.specs.Game.{mark}
 use Rattle.game.specs.Plays.{Past, begin, Safe}
-use Rattle.game.specs.Refusals.{Told}
+use Rattle.traffic.specs.Refusals.{Told}
 use Rattle.game.specs.Answers.{solved, map_after}
 use Rattle.keeper.specs.declared.serving.Served.{Served}
 use Rattle.keeper.specs.declared.service.Keeper.{Keeper}

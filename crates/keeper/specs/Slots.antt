@@ -5,7 +5,7 @@ use Rattle.traffic.specs.Meaning.{Meaning}
 use Rattle.game.specs.declared.map_fault.MapFault.{MapFault}
 use Rattle.game.specs.Game.{permitted_by}
 use Rattle.game.specs.Standing.{on}
-use Rattle.game.specs.Refusals.{first_unmet, unless}
+use Rattle.traffic.specs.Refusals.{first_unmet, unless}
 use Rattle.game.specs.Maps.{turned_away}
 use Rattle.keeper.specs.declared.slot.Ready.{Ready}
 use Rattle.keeper.specs.declared.slot.Waiting.{Waiting}

@@ -4,6 +4,7 @@ pub mod Answered
 pub mod NextStates
 pub mod Models
 pub mod Pairing
+pub mod Refusals
 pub mod Legality
 pub mod EmptyLaws
 pub mod Sound

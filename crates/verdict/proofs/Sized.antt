@@ -8,7 +8,7 @@ use Rattle.traffic.proofs.Asked.{size_none, size_some}
 use Rattle.game.specs.declared.map_fault.MapFault.TheVariants.{OverLimits}
 use Rattle.game.specs.declared.solution.Refusal.TheVariants.{Map}
 use Rattle.game.specs.Game.{mark}
-use Rattle.game.specs.Refusals.{unless}
+use Rattle.traffic.specs.Refusals.{unless}
 use Rattle.game.specs.Answers.{tally, judged, solved, map_after}
 use Rattle.game.specs.Filling.{filled}
 use Rattle.game.proofs.Admitted.{over_limits}

@@ -20,7 +20,7 @@ use Rattle.game.specs.declared.solution.Tally.{Tally}
 use Rattle.game.specs.declared.solution.Refusal.{Refusal}
 use Rattle.game.specs.declared.solution.Refusal.TheVariants.{Map, NoSchedule}
 use Rattle.game.specs.Game.{mark}
-use Rattle.game.specs.Refusals.{unless}
+use Rattle.traffic.specs.Refusals.{unless}
 use Rattle.game.specs.Maps.{turned_away}
 use Rattle.game.specs.Answers.{tally, judged}
 use Rattle.keeper.specs.declared.arming.Armed.{Armed}

@@ -1,6 +1,6 @@
 //! What a waiting keeper is asked: the report of the next state.
 ghost use Rattle.std.specs.Prelude.{◌≡◌, Ok, Err};
-ghost use Rattle.game.specs.Refusals.{unless};
+ghost use Rattle.traffic.specs.Refusals.{unless};
 ghost use Rattle.keeper.specs.Slots.{unreportable, reported};
 
 use crate::slot::{Ready, Waiting};
