@@ -1,4 +1,4 @@
-use Rattle.std.proofs.Common.{ℕ, sym, ap, ap₂, ◌∙◌}
+use Rattle.std.proofs.Common.{sym, ap, ap₂, ◌∙◌}
 use Rattle.site.specs.Loaded.{site_places}
 use Rattle.site.specs.SiteTraffic.{site_meaning}
 use Rattle.keeper.specs.Arming.{armed}
