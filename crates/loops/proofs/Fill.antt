@@ -4,7 +4,7 @@ use Rattle.site_read.specs.declared.fault.Fault.{Fault}
 use Rattle.std.proofs.lemmas.List.{map_push}
 use Rattle.loops.specs.declared.load_fault.LoadFault.{LoadFault}
 use Rattle.loops.specs.declared.load_fault.LoadFault.TheVariants.{File, Memory}
-use Rattle.loops.specs.Loading.{Loads, Holds}
+use Rattle.loops.specs.Loading.{Loads, Holds, Anything, Faultless}
 use Rattle.site_read.specs.Parse.{Parsed, then, many, rest_of, value_of}
 use Rattle.site_read.proofs.Sound.{never}
 
@@ -36,12 +36,12 @@ module _ {X : Type 0} (p : List ℕ → Parsed X) where
       rw (s, append-nil xs) refl
 
 -- a fault, or want of memory, of one value is that of the whole
-pub stops : {Y X W Z : Type 0} (f : Y → X) (g : W → Z) (s : Parsed X) (s' : Result Z Fault) (y : LoadFault) → ((e : Fault) → s ≡ Err e → s' ≡ Err e) → Loads f s (Err y) → Holds g (Unit {0}) s' (Err y)
+pub stops : {Y X W Z : Type 0} (f : Y → X) (g : W → Z) (s : Parsed X) (s' : Result Z Fault) (y : LoadFault) → ((e : Fault) → s ≡ Err e → s' ≡ Err e) → Loads f s (Err y) → Holds g Anything s' (Err y)
 stops f g s s' (File e) k h = k e h
 stops f g s s' Memory k h = tt
 
 -- where everything was skipped without a fault, only want of memory can keep the table from being made
-pub wants_nothing_faulty : {Y X : Type 0} (f : Y → X) (s : Parsed X) (rest : List ℕ) (r : Result Y LoadFault) → Ok rest ≡ rest_of s → Holds f (Unit {0}) (value_of s) r → Holds f ((x : X) × (value_of s ≡ Ok x)) (value_of s) r
+pub wants_nothing_faulty : {Y X : Type 0} (f : Y → X) (s : Parsed X) (rest : List ℕ) (r : Result Y LoadFault) → Ok rest ≡ rest_of s → Holds f Anything (value_of s) r → Holds f Faultless (value_of s) r
 wants_nothing_faulty f s rest (Ok y) q h = h
 wants_nothing_faulty f s rest (Err (File e)) q h = h
 wants_nothing_faulty f (Ok p) rest (Err Memory) q h = (p.0, refl)

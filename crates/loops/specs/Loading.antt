@@ -24,17 +24,21 @@ Loads f s (Ok p) = s ≡ Ok (f p.0, p.1.now)
 Loads f s (Err (File e)) = s ≡ Err e
 Loads f s (Err Memory) = Unit {0}
 
--- of a table alone; `wants` says when alone there may be want of memory
-abbrev pub Holds : {Y X : Type 0} → (Y → X) → Type 0 → Result X Fault → Result Y LoadFault → Type 0
+-- of a table alone; memory may be wanted only where what was read is such that `wants` holds
+abbrev pub Holds : {Y X : Type 0} → (Y → X) → (Result X Fault → Type 0) → Result X Fault → Result Y LoadFault → Type 0
 Holds f wants s (Ok x) = s ≡ Ok (f x)
 Holds f wants s (Err (File e)) = s ≡ Err e
-Holds f wants s (Err Memory) = wants
+Holds f wants s (Err Memory) = wants s
 
--- regions were read and nothing is at fault: only then is memory wanted, for their table
-abbrev pub RegionsRead : Result (List Row) Fault → Type 0
-RegionsRead s = (rs : List Row) × (s ≡ Ok rs)
+-- whatever was read, be it a fault
+abbrev pub Anything : {X : Type 0} → Result X Fault → Type 0
+Anything s = Unit {0}
 
--- of a place: it is a region loop that was read
+-- nothing is at fault
+abbrev pub Faultless : {X : Type 0} → Result X Fault → Type 0
+Faultless {X} s = (x : X) × (s ≡ Ok x)
+
+-- nothing is at fault, and it is a region loop
 abbrev pub RegionLoopRead : Result (Option Table) Fault → Type 0
 RegionLoopRead s = (rs : List Row) × (s ≡ Ok (Some (by_regions rs)))
 

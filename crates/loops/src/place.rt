@@ -41,7 +41,7 @@ impl Place {
         reader: RecordReader,
         lent: Option<Record<'_>>,
     ) -> Result<Place, LoadFault>
-        ensures { Holds place_table (RegionLoopRead (piece_table reader.place reader.size (option_map piece_of lent.entry))) (piece_table reader.place reader.size (option_map piece_of lent.entry)) result }
+        ensures { Holds place_table RegionLoopRead (piece_table reader.place reader.size (option_map piece_of lent.entry)) result }
     {
         match lent {
             None => Ok(Place::Vacant),

@@ -25,7 +25,7 @@ pub read_in_order : (file : List ℕ) → Bytes file → (p : Places) → file_t
 read_in_order file h p e = (only_files_are_read file h p (sym (whole file h) ∙ e)).0.order
 
 -- a record that was found reads as a table, and so only memory can be wanted for it
-record_stops : (file : List ℕ) (s : Result (Option Table) Fault) (t : Option Table) (q : Places) → s ≡ Ok t → file_tables file ≡ Ok q → (is_region_loop t ≡ true → has_region_loop q ≡ true) → (y : LoadFault) → Holds place_table (RegionLoopRead s) s (Err y) → Holds site_places (RegionLoopsRead (file_tables file)) (file_tables file) (Err y)
+record_stops : (file : List ℕ) (s : Result (Option Table) Fault) (t : Option Table) (q : Places) → s ≡ Ok t → file_tables file ≡ Ok q → (is_region_loop t ≡ true → has_region_loop q ≡ true) → (y : LoadFault) → Holds place_table RegionLoopRead s (Err y) → Holds site_places RegionLoopsRead (file_tables file) (Err y)
 record_stops file s t q e f more (File x) h = never x t (sym h ∙ e)
 record_stops file s t q e f more Memory h = (q, f, more (let same : t ≡ Some (by_regions h.0) = same_ok t (Some (by_regions h.0)) (sym e ∙ h.1) in ap is_region_loop same))
 
@@ -62,7 +62,7 @@ module _ (file : List ℕ) (h : Bytes file) (p : Pieces) (found : Ok p ≡ piece
 
   -- what stops the loading of a place stops that of the site
   abbrev Stops : Result (Option Table) Fault → Type 0
-  Stops s = (y : LoadFault) → Holds place_table (RegionLoopRead s) s (Err y) → Holds site_places (RegionLoopsRead (file_tables file)) (file_tables file) (Err y)
+  Stops s = (y : LoadFault) → Holds place_table RegionLoopRead s (Err y) → Holds site_places RegionLoopsRead (file_tables file) (Err y)
 
   pub first_stops : Stops (piece_table 1 (length file) p.first)
   first_stops =
@@ -84,19 +84,19 @@ module _ (file : List ℕ) (h : Bytes file) (p : Pieces) (found : Ok p ≡ piece
       let t = tables_of in record_stops file _ t.site.fourth t.site t.fourth t.tables (λ e. or_right _ _ e)
 
 -- what the records hold is the site of the file
-pub by_records : (file : List ℕ) → Bytes file → (r : Result Site LoadFault) → Holds site_places (RegionLoopsRead (file_tables file)) (file_tables file) r → Holds site_places (RegionLoopsRead (site file)) (site file) r
+pub by_records : (file : List ℕ) → Bytes file → (r : Result Site LoadFault) → Holds site_places RegionLoopsRead (file_tables file) r → Holds site_places RegionLoopsRead (site file) r
 by_records file h (Ok s) q = sym (whole file h) ∙ q
 by_records file h (Err (File e)) q = sym (whole file h) ∙ q
 by_records file h (Err Memory) q = (q.0, sym (whole file h) ∙ q.1, q.2)
 
 -- and the file is that of the site
-pub accepted : (file : List ℕ) → Bytes file → (r : Result Site LoadFault) → Holds site_places (RegionLoopsRead (site file)) (site file) r → Accepted file r
+pub accepted : (file : List ℕ) → Bytes file → (r : Result Site LoadFault) → Holds site_places RegionLoopsRead (site file) r → Accepted file r
 accepted file h (Ok s) q = only_files_are_read file h (site_places s) q
 accepted file h (Err (File e)) q = λ p l f. never e p (sym q ∙ ap site f ∙ files_are_read p l)
 accepted file h (Err Memory) q = let w = only_files_are_read file h q.0 q.1 in (q.0, w.0, w.1, q.2)
 
 -- what is answered is the file's fault
-pub fault_is_told : (file : List ℕ) → Bytes file → (r : Result Site LoadFault) → Holds site_places (RegionLoopsRead (site file)) (site file) r → FaultIsTold file r
+pub fault_is_told : (file : List ℕ) → Bytes file → (r : Result Site LoadFault) → Holds site_places RegionLoopsRead (site file) r → FaultIsTold file r
 fault_is_told file h (Ok s) q fault = (
   λ e. cc,
   λ w. never fault (site_places s) (sym ((faults_are_told file h fault).1 w) ∙ q),
@@ -108,7 +108,7 @@ fault_is_told file h (Err (File x)) q fault = (
 fault_is_told file h (Err Memory) q fault = (λ e. cc, λ w. never fault q.0 (sym ((faults_are_told file h fault).1 w) ∙ q.1))
 
 -- and every file of a site is read so
-pub file_is_read : (file : List ℕ) (r : Result Site LoadFault) → Holds site_places (RegionLoopsRead (site file)) (site file) r → FileIsRead file r
+pub file_is_read : (file : List ℕ) (r : Result Site LoadFault) → Holds site_places RegionLoopsRead (site file) r → FileIsRead file r
 file_is_read file (Ok s) q = λ p l f. same_ok (site_places s) p (sym q ∙ ap site f ∙ files_are_read p l)
 file_is_read file (Err (File e)) q = λ p l f. never e p (sym q ∙ ap site f ∙ files_are_read p l)
 file_is_read file (Err Memory) q =

@@ -5,7 +5,7 @@ ghost use Rattle.site_read.specs.Fields.{row, regions};
 ghost use Rattle.site_read.specs.Tables.{lawful_rows};
 ghost use Rattle.loops.specs.Regions.{rows_of, numbered};
 ghost use Rattle.loops.specs.States.{deadlines};
-ghost use Rattle.loops.specs.Loading.{Holds, RegionsRead, table_of};
+ghost use Rattle.loops.specs.Loading.{Holds, Anything, Faultless, table_of};
 
 use crate::load_fault::LoadFault;
 use crate::region::Region;
@@ -21,7 +21,7 @@ fn load_rows(
     reader: RegionReader,
     rest: &[u8],
 ) -> Result<(Vec<Region>, u16), LoadFault>
-    ensures read { Holds (λ p. rows_of p.0.items) (Unit {0}) (value_of (many (row reader.record.place reader.record.size reader.count) reader.count rest.now)) result }
+    ensures read { Holds (λ p. rows_of p.0.items) Anything (value_of (many (row reader.record.place reader.record.size reader.count) reader.count rest.now)) result }
     ensures lawful { 1 ≤ reader.count → reader.count ≤ 16 → IfOk result (λ p. lawful_rows (rows_of p.0.items) ≡ true) }
     ensures counted { IfOk result (λ p. (numbered 0 p.0.items ≡ true) × (p.1 ≡ deadlines (rows_of p.0.items))) }
 {
@@ -40,7 +40,7 @@ fn load_rows(
 impl RegionLoop {
     // Made as it is read, so that memory may be wanted before a fault is found.
     fn make(heap: Global, reader: RecordReader, rest: &[u8]) -> Result<RegionLoop, LoadFault>
-        ensures { Holds table_of (Unit {0}) (value_of (regions reader.place reader.size rest.now)) result }
+        ensures { Holds table_of Anything (value_of (regions reader.place reader.size rest.now)) result }
     {
         let (count, rest) = reader.ranged(rest, 1, 16)?;
         let regions = RegionReader {
@@ -54,7 +54,7 @@ impl RegionLoop {
     /// The table in a region record's bytes, behind its kind. A fault of the record is found before any memory is wanted.
     #[tactic(auto, using(crate::proofs::Fill::wants_nothing_faulty))]
     pub fn load(heap: Global, reader: RecordReader, rest: &[u8]) -> Result<RegionLoop, LoadFault>
-        ensures { Holds table_of (RegionsRead (value_of (regions reader.place reader.size rest.now))) (value_of (regions reader.place reader.size rest.now)) result }
+        ensures { Holds table_of Faultless (value_of (regions reader.place reader.size rest.now)) result }
     {
         reader.skip_regions(rest)?;
         RegionLoop::make(heap, reader, rest)

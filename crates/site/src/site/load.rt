@@ -16,7 +16,7 @@ impl Site {
     // The site that the records of a file hold.
     // Apart from read, so that its six exits speak of the records, and read brings the one result to the file.
     fn from_records(heap: Global, file: &[u8]) -> Result<Site, LoadFault>
-        ensures { Holds site_places (RegionLoopsRead (file_tables file.now)) (file_tables file.now) result }
+        ensures { Holds site_places RegionLoopsRead (file_tables file.now) result }
     {
         let size = file.len();
         let found = read_records(file)?;
@@ -41,7 +41,7 @@ impl Site {
     /// The site of a file. A file is accepted exactly when it is the file of a lawful site. Memory is wanted only for the
     /// region loops of an accepted file.
     pub fn read(heap: Global, file: &[u8]) -> Result<Site, LoadFault>
-        ensures read { Holds site_places (RegionLoopsRead (site file.now)) (site file.now) result }
+        ensures read { Holds site_places RegionLoopsRead (site file.now) result }
         ensures accepted { Accepted file.now result }
         ensures file { FileIsRead file.now result }
         ensures fault { FaultIsTold file.now result }
