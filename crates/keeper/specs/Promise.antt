@@ -84,8 +84,8 @@ module _ (M : Meaning) (may : ℕ → ℕ → Type 0) (marks : ℕ → ℕ) wher
     then : {p q r : Past} {k l n : Phase} {c : Call} {a : Answer} {cs : List Call} {said : List Answer} →
         Sound M may start p k → Serves p k c a q l → Runs start q l cs said r n → Runs start p k (c ∷ cs) (a ∷ said) r n
 
-  -- A call, and where it is asked, leave one answer, one course and one phase after it. So a question about a state that there
-  -- is not is refused as above, and answered in no other way.
+  -- A call, and where it is asked, leave at most one answer, one course and one phase after it. So a question about a state that
+  -- there is not is refused as above, and answered in no other way.
   abbrev pub OneAnswer : Type 0
   OneAnswer =
       (p q r : Past) (k l n : Phase) (c : Call) (a b : Answer) → Serves p k c a q l → Serves p k c b r n → (a ≡ b) × (q ≡ r) × (l ≡ n)

@@ -1,6 +1,6 @@
 -- What small sites and files come to. Each figure can be worked out by hand.
 use Rattle.std.specs.Prelude.{◌≡◌, ℕ, ◌||◌, [], ◌∷◌, Some, Ok, ◌==◌}
-use Rattle.site_read.specs.Faults.{told}
+use Rattle.site_read.specs.Faults.{report_with}
 use Rattle.site_read.specs.Format.{LawfulSite}
 use Rattle.site_read.specs.Sites.{site}
 use Rattle.positions.specs.Sites.{no_loops, always_due, two_always_due, two_of_two_checks, three_of_two_checks, contract_and_two_checks, contract_and_three_checks}
@@ -46,8 +46,8 @@ pub record SitesOfFiles : Type 0 where
 pub record FilesRead : Type 0 where
   pub the_file_has_22_bytes : whole ≡ 76 ∷ 75 ∷ 84 ∷ 0 ∷ 1 ∷ 2 ∷ 1 ∷ 1 ∷ 1 ∷ 2 ∷ 0 ∷ 1 ∷ 0 ∷ 1 ∷ 1 ∷ 1 ∷ 1 ∷ 2 ∷ 0 ∷ 1 ∷ 0 ∷ 1 ∷ []
   pub the_whole_file_is_read_as_its_site : site whole ≡ Ok two_of_two_checks
-  pub cut_short_it_ends_within_its_second_loop : refused cut_short ≡ Some (told 1 2 21)
-  pub a_set_must_name_regions_that_there_are : refused stray_set ≡ Some (told 7 1 10)
+  pub cut_short_it_ends_within_its_second_loop : refused cut_short ≡ Some (report_with 1 2 21)
+  pub a_set_must_name_regions_that_there_are : refused stray_set ≡ Some (report_with 7 1 10)
 
 pub record CheckedPositions : Type 0 where
   pub always_due : LoopsAlwaysDue

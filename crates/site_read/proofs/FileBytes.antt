@@ -6,7 +6,7 @@ use Rattle.std.proofs.lemmas.Grind.{flat_map-append}
 use Rattle.std.proofs.lemmas.List.Folds.{flat_map-map}
 use Rattle.site_read.specs.Tables.{Row, Table, by_regions, by_contract, every, lawful_set, lawful_row, Lawful}
 use Rattle.site_read.specs.Format.{Bytes, word, encode_row, encode, Places, placed, loop_count, file_of, LawfulPlace, LawfulSite}
-use Rattle.site_read.specs.Beginnings.{Field, bytes_of, a_set, row_fields, placed_fields, fields_of}
+use Rattle.site_read.specs.Beginnings.{Field, bytes_of, a_set, row_fields, placed_fields, FieldsMakeFiles}
 use Rattle.site_read.proofs.Decoded.{five_parts, three_parts}
 use Rattle.site_read.proofs.Files.{at_most_one}
 
@@ -77,7 +77,7 @@ module _ (place : ℕ) where
   placed_are (Some (by_regions rs)) = ap (λ (u : List ℕ). 1 ∷ length rs ∷ u) (rows_fields rs)
   placed_are (Some (by_contract g)) = refl
 
-pub file_fields : (p : Places) → file_of p ≡ bytes_of (fields_of p)
+pub file_fields : FieldsMakeFiles
 file_fields p =
     let both = λ (fs gs : List Field). sym (flat_map-append (λ (f : Field). f.bytes) fs gs) in
     ap (λ (u : List ℕ). 76 ∷ 75 ∷ 84 ∷ 0 ∷ 1 ∷ loop_count p ∷ u)

@@ -5,8 +5,8 @@ use Rattle.std.specs.Option.{option_map}
 use Rattle.site_read.specs.declared.fault.Fault.{Fault}
 use Rattle.site_read.specs.declared.fault.Fault.TheVariants.{Truncated, Mark, Version, LoopCount, Kind, Number, Set}
 use Rattle.site_read.specs.Parse.{Parsed, then}
-use Rattle.site_read.specs.Format.{Bytes}
-use Rattle.site_read.specs.Beginnings.{What, mark, version, loops, kind, number, set, Field, field, the_mark, alike}
+use Rattle.site_read.specs.Format.{Bytes, the_mark}
+use Rattle.site_read.specs.Beginnings.{What, mark, version, loops, kind, number, set, Field, field, alike}
 
 pub data Plan (X : Type 0) : Type 0 where
   done : X → Plan X

@@ -5,10 +5,10 @@ use Rattle.std.proofs.lemmas.Bool.{and_parts, false≢true}
 use Rattle.site_read.specs.declared.fault.Fault.{Fault}
 use Rattle.site_read.specs.declared.fault.Fault.TheVariants.{Truncated, Mark, Version, LoopCount, Kind, Number, Set, Trailing}
 use Rattle.site_read.specs.declared.fault.Report.{Report}
-use Rattle.site_read.specs.Faults.{told, report}
+use Rattle.site_read.specs.Faults.{report_with, report}
 use Rattle.site_read.specs.Tables.{Row, Table, by_regions, by_contract, every}
-use Rattle.site_read.specs.Format.{loop_count}
-use Rattle.site_read.specs.Beginnings.{What, mark, version, loops, kind, number, set, Field, field, the_mark, a_set, row_fields, placed_fields, bytes_of, Due, number_of, wrong_byte}
+use Rattle.site_read.specs.Format.{loop_count, the_mark}
+use Rattle.site_read.specs.Beginnings.{What, mark, version, loops, kind, number, set, Field, field, a_set, row_fields, placed_fields, bytes_of, Due, number_of, wrong_byte}
 use Rattle.site_read.proofs.FileBytes.{every_both}
 use Rattle.site_read.proofs.Plans.{fault_at}
 
@@ -62,15 +62,15 @@ one_of : (fs : List Field) (f : Field) (gs : List Field) → of_records (fs ++ (
 one_of [] f gs h = (and_parts (of_record f.what) (every (λ f. of_record f.what) gs) h).0
 one_of (x ∷ fs) f gs h = one_of fs f gs (and_parts (of_record x.what) (every (λ f. of_record f.what) (fs ++ (f ∷ gs))) h).1
 
-record_report : (w : What) (q : ℕ) (found : List ℕ) (at : ℕ) → of_record w ≡ true → report (fault_at w q found at) ≡ told (number_of w) q (at + wrong_byte w found)
+record_report : (w : What) (q : ℕ) (found : List ℕ) (at : ℕ) → of_record w ≡ true → report (fault_at w q found at) ≡ report_with (number_of w) q (at + wrong_byte w found)
 record_report mark q found at h = absurd (false≢true h)
 record_report version q found at h = absurd (false≢true h)
 record_report loops q found at h = absurd (false≢true h)
-record_report kind q found at h = ap (λ (n : ℕ). told 5 q n) (omega arith)
-record_report number q found at h = ap (λ (n : ℕ). told 6 q n) (omega arith)
-record_report set q found at h = ap (λ (n : ℕ). told 7 q n) (omega arith)
+record_report kind q found at h = ap (λ (n : ℕ). report_with 5 q n) (omega arith)
+record_report number q found at h = ap (λ (n : ℕ). report_with 6 q n) (omega arith)
+record_report set q found at h = ap (λ (n : ℕ). report_with 7 q n) (omega arith)
 
-pub due_report : (before : List Field) (f : Field) → Due before f → (found : List ℕ) → report (fault_at f.what f.place found (length (bytes_of before))) ≡ told (number_of f.what) f.place (length (bytes_of before) + wrong_byte f.what found)
+pub due_report : (before : List Field) (f : Field) → Due before f → (found : List ℕ) → report (fault_at f.what f.place found (length (bytes_of before))) ≡ report_with (number_of f.what) f.place (length (bytes_of before) + wrong_byte f.what found)
 due_report [] f d found =
     let e : f ≡ field mark 0 the_mark = cc (d.fields) in
     rw e refl

@@ -10,7 +10,7 @@ use Rattle.site_read.specs.Format.{Bytes, Places, LawfulSite, loop_count, file_o
 use Rattle.site_read.specs.declared.records.Records.{Records}
 use Rattle.site_read.specs.Records.{pieces, pieces_of, seen_pieces}
 use Rattle.site_read.specs.Sites.{site}
-use Rattle.site_read.specs.Beginnings.{Field, bytes_of, fields_of, BeginsFile, Due, WrongField, EndsEarly, BytesBehind, FaultIn, FaultsAreTold}
+use Rattle.site_read.specs.Beginnings.{Field, bytes_of, fields_of, BeginsFile, Due, WrongField, EndsEarly, BytesBehind, FaultIn}
 use Rattle.site_read.proofs.Sound.{never, same_ok, then_ok}
 use Rattle.site_read.proofs.Encoded.{bytes_after}
 use Rattle.site_read.proofs.Files.{files_are_read, only_files_are_read}
@@ -157,7 +157,8 @@ behind_is file e w =
     sym (run_site file) ∙ ap (λ (a : Parsed Places). then a (finish size)) r
     ∙ rw (le-leb 1 (length w.rest) w.some) (ap (λ (n : ℕ). Err (Trailing n)) (stands (file_of w.site) w.rest file w.parts) ∙ ap (λ (e : Fault). Err e) (same_report (Trailing (length (file_of w.site))) e (sym w.tells)))
 
-pub faults_are_told : FaultsAreTold
+-- the reader tells a file's fault, and no other: a file that has none is accepted, and no file has two
+pub faults_are_told : (file : List ℕ) → Bytes file → (e : Fault) → (site file ≡ Err e) ↔ FaultIn file e
 faults_are_told file h e = (
   is_fault file h e,
   λ f. elim f [ inl a ↦ wrong_is file h e a | inr g ↦ elim g [ inl a ↦ early_is file e a | inr a ↦ behind_is file e a ] ],

@@ -5,8 +5,8 @@ use Rattle.std.proofs.lemmas.Bool.{and_parts, eqb-true, leb-true, ltb-true}
 use Rattle.std.proofs.lemmas.List.Concat.{flat_map_single}
 use Rattle.site_read.specs.declared.limits.Span.{Span}
 use Rattle.site_read.specs.Tables.{Row, Gaps, Table, every}
-use Rattle.site_read.specs.Format.{Bytes, word, Places}
-use Rattle.site_read.specs.Beginnings.{What, mark, version, loops, kind, number, set, Field, field, the_mark, a_number, a_set, row_fields, table_fields, placed_fields}
+use Rattle.site_read.specs.Format.{Bytes, word, Places, the_mark}
+use Rattle.site_read.specs.Beginnings.{What, mark, version, loops, kind, number, set, Field, field, a_number, a_set, row_fields, table_fields, placed_fields}
 use Rattle.site_read.proofs.Plans.{Plan, done, bind, width, Leads, parted}
 use Rattle.site_read.proofs.SitePlan.{one, two, byte, times, within, number_plan, set_plan, span_plan, row_plan, regions_plan, gaps_plan, table_of_kind, table_plan, slot_plan, is_mark, header_plan, site_plan}
 

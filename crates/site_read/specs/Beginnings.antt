@@ -1,14 +1,13 @@
 -- What is wrong with a file, said of the files of lawful sites: it goes on as none of them does, it ends too early to be
 -- one, or it goes on behind one. No reader, and no place that a reader has come to.
-use Rattle.std.specs.Prelude.{◌≡◌, ℕ, suc, ◌+◌, ◌<◌, ◌≤◌, cond, ◌⊎◌, ◌↔◌, List, [], ◌∷◌, ◌++◌, length, map, Some, None, Err, Option, ◌==◌}
+use Rattle.std.specs.Prelude.{◌≡◌, ℕ, suc, ◌+◌, ◌<◌, ◌≤◌, cond, ◌⊎◌, List, [], ◌∷◌, ◌++◌, length, map, Some, None, Option, ◌==◌}
 use Rattle.std.specs.List.{flat_map}
 use Rattle.site_read.specs.declared.fault.Fault.{Fault}
 use Rattle.site_read.specs.declared.kind.Kind.TheVariants.{Region, Contract}
-use Rattle.site_read.specs.Faults.{told, report}
+use Rattle.site_read.specs.Faults.{report_with, report}
 use Rattle.site_read.specs.Kinds.{kind_byte}
 use Rattle.site_read.specs.Tables.{Row, Table, by_regions, by_contract}
-use Rattle.site_read.specs.Format.{Bytes, word, Places, LawfulSite, loop_count, file_of}
-use Rattle.site_read.specs.Sites.{site}
+use Rattle.site_read.specs.Format.{word, the_mark, Places, LawfulSite, loop_count, file_of}
 
 -- what a field is
 pub data What : Type 0 where
@@ -27,10 +26,6 @@ pub record Field : Type 0 where
 
 abbrev pub field : What → ℕ → List ℕ → Field
 field w place bs = record { what = w; place = place; bytes = bs }
-
--- the mark LKT
-abbrev pub the_mark : List ℕ
-the_mark = 76 ∷ 75 ∷ 84 ∷ []
 
 -- the fields of the record of loop `place`
 module _ (place : ℕ) where
@@ -61,6 +56,10 @@ fields_of p =
 
 abbrev pub bytes_of : List Field → List ℕ
 bytes_of = flat_map (λ f. f.bytes)
+
+-- they are the file
+abbrev pub FieldsMakeFiles : Type 0
+FieldsMakeFiles = (p : Places) → file_of p ≡ bytes_of (fields_of p)
 
 -- the file of some lawful site begins with these bytes
 pub record BeginsFile (bs : List ℕ) : Type 0 where
@@ -106,7 +105,7 @@ pub record WrongField (file : List ℕ) (e : Fault) : Type 0 where
   pub rest : List ℕ
   pub parts : file ≡ bytes_of before ++ (found ++ rest)
   pub wrong : BeginsFile (bytes_of before ++ found) → ⊥
-  pub tells : report e ≡ told (number_of due.what) due.place (length (bytes_of before) + wrong_byte due.what found)
+  pub tells : report e ≡ report_with (number_of due.what) due.place (length (bytes_of before) + wrong_byte due.what found)
 
 -- a field is due, and the file ends before it or inside it
 pub record EndsEarly (file : List ℕ) (e : Fault) : Type 0 where
@@ -116,7 +115,7 @@ pub record EndsEarly (file : List ℕ) (e : Fault) : Type 0 where
   pub found : List ℕ
   pub short : length found < length due.bytes
   pub parts : file ≡ bytes_of before ++ found
-  pub tells : report e ≡ told 1 due.place (length file)
+  pub tells : report e ≡ report_with 1 due.place (length file)
 
 -- bytes follow the file of a lawful site
 pub record BytesBehind (file : List ℕ) (e : Fault) : Type 0 where
@@ -125,11 +124,7 @@ pub record BytesBehind (file : List ℕ) (e : Fault) : Type 0 where
   pub rest : List ℕ
   pub some : 1 ≤ length rest
   pub parts : file ≡ file_of site ++ rest
-  pub tells : report e ≡ told 8 0 (length (file_of site))
+  pub tells : report e ≡ report_with 8 0 (length (file_of site))
 
 abbrev pub FaultIn : List ℕ → Fault → Type 0
 FaultIn file e = WrongField file e ⊎ (EndsEarly file e ⊎ BytesBehind file e)
-
--- the reader tells a file's fault, and no other: a file that has none is accepted, and no file has two
-abbrev pub FaultsAreTold : Type 0
-FaultsAreTold = (file : List ℕ) → Bytes file → (e : Fault) → (site file ≡ Err e) ↔ FaultIn file e

@@ -42,10 +42,14 @@ held (Some t) = 1
 abbrev pub loop_count : Places → ℕ
 loop_count p = held p.first + held p.second + held p.third + held p.fourth
 
--- the file of a site: the mark LKT, version 1, the number of loops, the records in file order
+-- the mark LKT
+abbrev pub the_mark : List ℕ
+the_mark = 76 ∷ 75 ∷ 84 ∷ []
+
+-- the file of a site: the mark, version 1, the number of loops, the records in file order
 abbrev pub file_of : Places → List ℕ
 file_of p =
-    76 ∷ 75 ∷ 84 ∷ 0 ∷ 1 ∷ loop_count p ∷ (placed p.first ++ (placed p.second ++ (placed p.third ++ placed p.fourth)))
+    the_mark ++ 0 ∷ 1 ∷ loop_count p ∷ (placed p.first ++ (placed p.second ++ (placed p.third ++ placed p.fourth)))
 
 -- no loop stands behind a vacant place
 abbrev pub no_gap : Option Table → Option Table → Bool

@@ -2,7 +2,7 @@
 ghost use Rattle.std.specs.Prelude.{◌≡◌, ◌-◌, ◌↔◌, length};
 ghost use Rattle.site_read.specs.declared.fault.Fault.{Fault as FaultOf};
 ghost use Rattle.site_read.specs.Records.{before, record_of, seen_record, slot as slot_of, seen_slot, pieces, seen_pieces};
-ghost use Rattle.site_read.specs.Beginnings.{FaultIn};
+ghost use Rattle.site_read.specs.Beginnings.{FaultIn, FieldsMakeFiles};
 
 use crate::fault::Fault;
 use crate::field::RecordReader;
@@ -107,6 +107,7 @@ fn split_records(file: &[u8]) -> Result<Records<'_>, Fault>
 /// The records of a whole file, or its fault. A file that has no fault is accepted.
 pub fn read_records(file: &[u8]) -> Result<Records<'_>, Fault>
     ensures parsed { seen_pieces result ≡ pieces file.now }
+    ensures fields { FieldsMakeFiles }
     ensures faults { (fault : FaultOf) → (result ≡ Err fault) ↔ FaultIn file.now fault }
 {
     split_records(file)

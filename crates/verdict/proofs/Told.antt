@@ -31,7 +31,7 @@ use Rattle.game.proofs.Admitted.{not_turned_away, admitted}
 use Rattle.verdict.specs.declared.Verdict.{Verdict}
 use Rattle.verdict.specs.declared.Verdict.TheVariants.{Refused}
 use Rattle.verdict.specs.Verdicts.{ruled, verdict_by, Judged}
-use Rattle.verdict.specs.Tells.{GameOf, Tells, FaultIsTold}
+use Rattle.verdict.specs.Tells.{GameOf, Tells, FaultIsRefused}
 
 module _ (file : List ℕ) (bytes : Bytes file) (map : List ℕ) where
   -- what a refused file tells: the site that it is of, if any, has too many states
@@ -42,8 +42,8 @@ module _ (file : List ℕ) (bytes : Bytes file) (map : List ℕ) where
       subst (λ (x : Places). (32768 < (site_meaning x).states) ⊎ (length map < (site_meaning x).states)) same big
 
   -- what synthesis answers, unless it is turned away
-  abbrev answer_unless : Option MapFault → Places → Result Tally Refusal
-  answer_unless away p = unless (λ f. Err (Map f)) away (judged (mark (site_meaning p) 0) (tally (site_meaning p)))
+  abbrev found_unless : Option MapFault → Places → Result Tally Refusal
+  found_unless away p = unless (λ f. Err (Map f)) away (judged (mark (site_meaning p) 0) (tally (site_meaning p)))
 
   module _ (p : Places) (q : site file ≡ Ok p) where
     l : LawfulSite p
@@ -84,7 +84,7 @@ module _ (file : List ℕ) (bytes : Bytes file) (map : List ℕ) where
               ]
         ]
 
-    by_room : (o : Option MapFault) → turned_away (site_meaning p) (length map) 0 ≡ o → Tells file (length map) (ruled (site_meaning p).states (armed 0 (answer_unless o p)))
+    by_room : (o : Option MapFault) → turned_away (site_meaning p) (length map) 0 ≡ o → Tells file (length map) (ruled (site_meaning p).states (armed 0 (found_unless o p)))
     by_room None e =
         by_mark (leb-true _ _ (sym (within_is p) ∙ (admitted (site_meaning p) (length map) 0 e).limits)) (mark (site_meaning p) 0) refl
     by_room (Some f) e = refuses p q (too_many f e)
@@ -104,7 +104,7 @@ module _ (file : List ℕ) (bytes : Bytes file) (map : List ℕ) where
   above_faults n (Err (Map ShortMap)) x e h = let same : 10 ≡ x.number = cc in omega arith
   above_faults n (Err (Map NoSuchState)) x e h = let same : 11 ≡ x.number = cc in omega arith
 
-  pub fault_told : (r : Result Verdict AllocError) → Judged file map r → FaultIsTold file r
+  pub fault_told : (r : Result Verdict AllocError) → Judged file map r → FaultIsRefused file r
   fault_told (Ok v) j = (
     λ fault w. ap Ok (j ∙ ap (λ s. verdict_by s map) ((faults_are_told file bytes fault).1 w)),
     λ told e h. go told (site file) refl (let same : v ≡ Refused told = cc in sym j ∙ same) h,

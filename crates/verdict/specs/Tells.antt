@@ -24,10 +24,10 @@ pub record GameOf (file : List ℕ) (n : ℕ) (t : Tally) (p : Places) : Type 0 
   pub lasted : t.rounds ≡ rounds (site_meaning p)
 
 -- the file is refused for its fault; and a refusal by a fault's number, 1 to 8, is for its fault
-abbrev pub FaultIsTold : List ℕ → Result Verdict AllocError → Type 0
-FaultIsTold file r =
+abbrev pub FaultIsRefused : List ℕ → Result Verdict AllocError → Type 0
+FaultIsRefused file r =
     ((fault : Fault) → FaultIn file fault → r ≡ Ok (Refused (report fault)))
-    × ((told : Report) → r ≡ Ok (Refused told) → told.number ≤ 8 → (fault : Fault) × FaultIn file fault × (report fault ≡ told))
+    × ((x : Report) → r ≡ Ok (Refused x) → x.number ≤ 8 → (fault : Fault) × FaultIn file fault × (report fault ≡ x))
 
 -- A schedule: some move is safe in state 0. No schedule: every rule is led into a jam from state 0, and the count is the
 -- least number of checks within which every rule is. Refused: every lawful site that has this file, if there is one, has

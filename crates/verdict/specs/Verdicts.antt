@@ -2,7 +2,7 @@
 use Rattle.std.specs.Prelude.{◌≡◌, ℕ, List, ◌++◌, Ok, Err, codes, decimal, Result}
 use Rattle.std.specs.declared.alloc.AllocError.{AllocError}
 use Rattle.site_read.specs.declared.fault.Fault.{Fault}
-use Rattle.site_read.specs.Faults.{report, told, refusal}
+use Rattle.site_read.specs.Faults.{report, report_with, refusal}
 use Rattle.site_read.specs.Format.{Places}
 use Rattle.site_read.specs.Sites.{site}
 use Rattle.site.specs.Loaded.{RegionLoopsRead}
@@ -20,7 +20,7 @@ use Rattle.verdict.specs.declared.Verdict.TheVariants.{Schedule, NoSchedule, Ref
 abbrev pub ruled : ℕ → Result Armed Refusal → Verdict
 ruled n (Ok a) = Schedule n a.tally
 ruled n (Err (NoSchedule-found k t)) = NoSchedule n t k
-ruled n (Err (Map f)) = Refused (told (maps.told f).number 0 0)
+ruled n (Err (Map f)) = Refused (report_with (maps.told f).number 0 0)
 
 -- synthesis from joint state 0
 abbrev pub site_verdict : Places → List ℕ → Verdict

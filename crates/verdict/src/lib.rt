@@ -2,10 +2,10 @@
 #![tactic(auto)]
 
 ghost use Rattle.std.specs.Prelude.{◌≡◌, length, IfOk, Some};
-ghost use Rattle.site_read.specs.Faults.{told};
+ghost use Rattle.site_read.specs.Faults.{report_with};
 ghost use Rattle.site.specs.Loaded.{site_places};
 ghost use Rattle.verdict.specs.Verdicts.{ruled, site_verdict, site_map, Judged, judged_map, lines};
-ghost use Rattle.verdict.specs.Tells.{Tells, FaultIsTold};
+ghost use Rattle.verdict.specs.Tells.{Tells, FaultIsRefused};
 ghost use Rattle.verdict.specs.declared.Verdict.TheVariants.{Refused};
 
 use game::solution::{Refusal, Tally};
@@ -61,7 +61,7 @@ impl fmt::Display for Verdict {
 impl Verdict {
     // Refused by this number, and no loop or byte is at fault.
     fn refused_whole(number: u8) -> Verdict
-        ensures { result ≡ Refused (told number 0 0) }
+        ensures { result ≡ Refused (report_with number 0 0) }
     {
         Verdict::Refused(Report {
             number,
@@ -122,7 +122,7 @@ impl Verdict {
         ensures value { Judged file.now map.old result }
         ensures after { map.new ≡ judged_map file.now map.old result }
         ensures tells { IfOk result (Tells file.now (length map.old)) }
-        ensures fault { FaultIsTold file.now result }
+        ensures fault { FaultIsRefused file.now result }
     {
         Verdict::judge(heap, file, map)
     }

@@ -58,7 +58,8 @@ impl Site {
         ensures file { FileIsRead file.now (leaving self.new result) }
         ensures fault { FaultIsTold file.now (leaving self.new result) }
     {
-        *self = Site::read(heap, file)?;
+        let site = Site::read(heap, file)?;
+        *self = site;
         Ok(())
     }
 }
