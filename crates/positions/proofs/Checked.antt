@@ -29,6 +29,10 @@ not_below m k l = ne_eqb m k (λ e. absurd (omega (arith, e)))
 pub checked_positions : CheckedPositions
 unfolding some_below every_below least legal within_limits jam keeps_in holds_out Z mark_by mark permitted_by pick_by threat comes_before worst spoiler_by values how_many winning largest rounds
 checked_positions = record {
+  without_loops = record {
+    the_empty_traffic_is_safe = refl;
+    the_empty_traffic_picks_silence = refl;
+  };
   always_due = record {
     an_empty_site_is_safe = refl;
     an_empty_site_picks_silence = refl;

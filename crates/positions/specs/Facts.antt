@@ -1,11 +1,19 @@
 -- What small sites and files come to. Each figure can be worked out by hand.
 use Rattle.std.specs.Prelude.{◌≡◌, ℕ, ◌||◌, [], ◌∷◌, Some, Ok, ◌==◌}
+use Rattle.traffic.specs.Models.{empty_meaning}
+use Rattle.game.specs.Game.{mark}
+use Rattle.game.specs.Choice.{pick_by}
 use Rattle.site_read.specs.Faults.{report_with}
 use Rattle.site_read.specs.Format.{LawfulSite}
 use Rattle.site_read.specs.Sites.{site}
 use Rattle.positions.specs.Sites.{no_loops, always_due, two_always_due, two_of_two_checks, three_of_two_checks, contract_and_two_checks, contract_and_three_checks}
 use Rattle.positions.specs.Files.{whole, cut_short, stray_set, refused}
 use Rattle.positions.specs.Outcomes.{marks_of, may_begin, first_pick, counterplay, HasSchedule, HasNoSchedule}
+
+-- the empty traffic by itself: no loop and one state
+pub record TrafficWithoutLoops : Type 0 where
+  pub the_empty_traffic_is_safe : mark empty_meaning 0 ≡ 0
+  pub the_empty_traffic_picks_silence : pick_by empty_meaning (mark empty_meaning) 0 ≡ Some 0
 
 -- loops that are due at every check
 pub record LoopsAlwaysDue : Type 0 where
@@ -50,6 +58,7 @@ pub record FilesRead : Type 0 where
   pub a_set_must_name_regions_that_there_are : refused stray_set ≡ Some (report_with 7 1 10)
 
 pub record CheckedPositions : Type 0 where
+  pub without_loops : TrafficWithoutLoops
   pub always_due : LoopsAlwaysDue
   pub two_checks : LoopsOfTwoChecks
   pub beside_a_contract : LoopsBesideAContract

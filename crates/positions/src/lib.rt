@@ -11,7 +11,7 @@ ghost use Rattle.positions.specs.Figures.{worked_out};
 
 use site_read::fault::Report;
 
-/// What the game of a site of N states comes to.
+/// What the game of a site, or of a traffic by itself, comes to. It has N states.
 #[derive(Clone, Copy)]
 pub struct WorkedSite<const N: usize> {
     /// The mark of each state, in the order of their numbers.
@@ -32,6 +32,8 @@ pub struct WorkedFile<const N: usize> {
 /// The figures of each site and file. A loop of so many checks has one region, and is due at the last of them.
 #[derive(Clone, Copy)]
 pub struct WorkedExamples {
+    pub empty_traffic: WorkedSite<1>,
+    /// Four vacant places.
     pub no_loops: WorkedSite<1>,
     /// A loop of one check.
     pub always_due: WorkedSite<1>,
@@ -58,12 +60,15 @@ pub fn worked_examples() -> WorkedExamples
     ensures facts { CheckedPositions }
     ensures figures { result ≡ worked_out }
 {
+    // Four vacant places come to what the empty traffic does.
+    let without_loops = WorkedSite {
+        marks: [0],
+        count: None,
+        pick: Some(0),
+    };
     WorkedExamples {
-        no_loops: WorkedSite {
-            marks: [0],
-            count: None,
-            pick: Some(0),
-        },
+        empty_traffic: without_loops,
+        no_loops: without_loops,
         always_due: WorkedSite {
             marks: [0],
             count: None,
