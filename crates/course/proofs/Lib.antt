@@ -1,0 +1,5 @@
+mod Replying
+mod Slotting
+mod Calls
+mod Running
+mod SafeCourses
