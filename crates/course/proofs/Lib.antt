@@ -3,3 +3,8 @@ mod Slotting
 mod Calls
 mod Running
 mod SafeCourses
+mod Silences
+mod JamsTold
+mod Legals
+mod Losing
+mod IntoJam

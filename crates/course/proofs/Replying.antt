@@ -43,6 +43,13 @@ module _ (M : Meaning) (s m : ℕ) where
       go (Some t) f = (t, refl, (threat_parts M marks s m t f.threatens).0, f.below)
       go None f = found _ refl
 
+-- where the spoiler answers, the reply is its answer
+pub spoiled_reply : (M : Meaning) (marks : ℕ → ℕ) (s m t u : ℕ) → spoiler_by M marks s m ≡ Some t → reply_by M marks s m ≡ Some u → t ≡ u
+unfolding reply_by
+spoiled_reply M marks s m t u e f =
+    let w : reply_by M marks s m ≡ Some t = ap (λ o. option_or o (least (M.leads s m) 0 M.states)) e in
+    cc
+
 -- the lowest next state is the next one from 0 on
 pub next_zero : (M : Meaning) (s m : ℕ) → within_limits M ≡ true → next_of M s m 0 ≡ least (M.leads s m) 0 M.states
 unfolding next_of

@@ -5,6 +5,8 @@
 //! the plants replied. The plants reply by one rule: as the spoiler where it has an answer, and else the lowest next state.
 #![tactic(auto)]
 
+pub mod account;
 pub mod check;
+pub mod lost;
 mod plants;
 pub mod slots;
