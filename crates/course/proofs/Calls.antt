@@ -1,9 +1,8 @@
 -- The calls of a slot, on a filled map and in a state of mark 0.
-use Rattle.std.proofs.Common.{◌≡◌, ℕ, true, List, length, Some, None, Ok, Err, Option, Result, sym, ap, ap₂, ◌∙◌}
+use Rattle.std.proofs.Common.{◌≡◌, ℕ, List, length, Some, None, Ok, Err, Option, Result, ap, ap₂, ◌∙◌}
 use Rattle.std.specs.Option.{option_or}
 use Rattle.traffic.specs.Meaning.{Meaning, Lawful}
 use Rattle.game.specs.declared.map_fault.MapFault.{MapFault}
-use Rattle.game.specs.Game.{mark, permitted_by}
 use Rattle.game.specs.Choice.{pick_by}
 use Rattle.game.specs.Standing.{on}
 use Rattle.traffic.specs.Refusals.{unless}
@@ -11,7 +10,6 @@ use Rattle.game.specs.Maps.{turned_away, unless_turned_away}
 use Rattle.game.proofs.Admitted.{not_turned_away}
 use Rattle.keeper.specs.declared.slot.Ready.{Ready}
 use Rattle.keeper.specs.declared.slot.Waiting.{Waiting}
-use Rattle.keeper.specs.declared.slot_fault.SlotFault.{SlotFault}
 use Rattle.keeper.specs.declared.slot_fault.SlotFault.TheVariants.{NotPermitted, NoNextState}
 use Rattle.keeper.specs.Slots.{slot_fault, unless_handed_back, granted, reported}
 use Rattle.course.specs.declared.check.Check.{Check}

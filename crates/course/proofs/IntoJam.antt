@@ -1,5 +1,5 @@
 -- Where there is no schedule, the lowest legal moves against the spoiler end in a jam within the count.
-use Rattle.std.proofs.Common.{◌≡◌, ℕ, zero, suc, ◌<◌, ◌≤◌, true, false, List, [], ◌∷◌, ◌++◌, length, take, drop, Some, None, Ok, Err, Option, Result, sym, refl, ap, ◌∙◌, subst, inl, inr, arith}
+use Rattle.std.proofs.Common.{◌≡◌, ℕ, zero, suc, ◌<◌, ◌≤◌, true, List, [], length, take, drop, Some, None, Ok, Err, Option, Result, sym, refl, ap, ◌∙◌, subst, inl, inr, arith}
 use Rattle.std.proofs.Math.Seq.{take-append_seam}
 use Rattle.std.proofs.lemmas.Bool.{both_ways, cases_Bool}
 use Rattle.traffic.specs.Meaning.{Meaning, Lawful, legal, jam}
@@ -17,7 +17,6 @@ use Rattle.game.proofs.Admitted.{answered, admitted, not_turned_away}
 use Rattle.game.proofs.Choosing.{spoiler_same}
 use Rattle.game.proofs.Counsel.{leads_down}
 use Rattle.course.specs.declared.check.Check.{Check}
-use Rattle.course.specs.Plants.{reply_by}
 use Rattle.course.specs.Courses.{grown, Lowest}
 use Rattle.course.specs.Lost.{lost_check, lost_play, play_written, Spoiled, AllSpoiled, LostPlay, PlaysIntoJam}
 use Rattle.course.proofs.Replying.{spoiled_reply}
@@ -63,8 +62,7 @@ module _ (M : Meaning) (law : Lawful M) (map : List ℕ) (full : Filled M map) (
   made_by p s c e h l q =
       let f = is_lost M (on map) s law c q in
       let d = down s c.mv h l f.allowed in
-      let same : d.0 ≡ c.next = spoiled_reply M (mark M) s c.mv d.0 c.next d.1 (sym (reply_same M map full s c.mv) ∙ f.reply) in
-      (
+      let same : d.0 ≡ c.next = spoiled_reply M (mark M) s c.mv d.0 c.next d.1 (sym (reply_same M map full s c.mv) ∙ f.reply) in (
         record {
           from_last = f.from ∙ sym e;
           no_jam = ap (jam M) f.from ∙ legal_no_jam M law s c.mv f.allowed;

@@ -1,5 +1,5 @@
 -- What is told of a play's jams.
-use Rattle.std.proofs.Common.{◌≡◌, ℕ, ◌<◌, Bool, true, false, ◌||◌, ◌↔◌, List, [], ◌∷◌, sym, refl, ap, ◌∙◌}
+use Rattle.std.proofs.Common.{◌≡◌, ℕ, ◌<◌, Bool, true, false, ◌||◌, List, [], ◌∷◌, sym, refl, ap, ◌∙◌}
 use Rattle.std.specs.List.{list_any}
 use Rattle.traffic.specs.Meaning.{Meaning, Lawful, jam}
 use Rattle.traffic.specs.Answered.{within_limits, due_of}
@@ -48,8 +48,7 @@ module _ (M : Meaning) (law : Lawful M) (limits : within_limits M ≡ true) wher
 
 pub tells : (M : Meaning) → Lawful M → (start : ℕ) (cs : List Check) (met : Bool) → met ≡ meets_jam M start cs → TellsJam M start cs met
 tells M law start cs met e limits plays =
-    let inside : start < M.states = before M law limits cs (begin start) plays in
-    (
+    let inside : start < M.states = before M law limits cs (begin start) plays in (
       λ f.
           let none = sym e ∙ f in
           forth M law limits cs (begin start) plays (sym (told M law limits start inside) ∙ first_false _ _ none) (second_false _ _ none),

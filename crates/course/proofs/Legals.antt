@@ -5,7 +5,7 @@ use Rattle.std.proofs.lemmas.Bool.{cases_eq, cases_Bool, both_ways}
 use Rattle.traffic.specs.Searches.{least, or_zero}
 use Rattle.traffic.specs.Meaning.{Meaning, Lawful, legal, jam}
 use Rattle.traffic.specs.Answered.{within_limits, legal_of}
-use Rattle.traffic.specs.Found.{Least, least_is, least_some, least_none}
+use Rattle.traffic.specs.Found.{least_is, least_some, least_none}
 use Rattle.traffic.proofs.Asked.{legal_is}
 use Rattle.game.proofs.Kept.{legal_low}
 use Rattle.game.proofs.Rules.{some_legal}

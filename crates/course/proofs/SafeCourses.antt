@@ -1,13 +1,12 @@
 -- Slots from a safe state are a play without a jam, and a keeper is armed only in a safe state.
-use Rattle.std.proofs.Common.{◌≡◌, ℕ, zero, suc, ◌<◌, ◌≤◌, true, cond, List, length, Ok, Err, is_ok, Result, sym, refl, ap, ◌∙◌, subst, arith}
+use Rattle.std.proofs.Common.{◌≡◌, ℕ, zero, suc, ◌<◌, true, cond, List, length, Ok, Err, is_ok, Result, sym, refl, ap, ◌∙◌, subst, arith}
 use Rattle.std.proofs.lemmas.Bool.{both_ways}
 use Rattle.traffic.specs.Meaning.{Meaning, Lawful, legal}
 use Rattle.game.specs.declared.solution.Tally.{Tally}
 use Rattle.game.specs.declared.solution.Refusal.{Refusal}
 use Rattle.game.specs.Game.{mark}
 use Rattle.game.specs.Plays.{Past, begin, after, last, Play, NoJamMet, Safe}
-use Rattle.game.specs.Standing.{on}
-use Rattle.game.specs.Maps.{turned_away, Filled}
+use Rattle.game.specs.Maps.{Filled}
 use Rattle.game.specs.Filling.{filled}
 use Rattle.game.specs.Answers.{tally, judged, solved, map_after}
 use Rattle.game.proofs.Admitted.{Admitted, admitted}
@@ -51,8 +50,8 @@ module _ (M : Meaning) (law : Lawful M) where
       let there = next_inside M law s h z in
       let safe = next_unmarked M law s h z in
       let more = grows n (after p (picked M s) (slot M s).next) (slot M s).next refl there safe
-          (plays, subst (λ x. legal M x (picked M s) ≡ true) (sym e) (picked_legal M law s h z), subst (λ x. M.leads x (picked M s) (slot M s).next ≡ true) (sym e) (next_leads M law s h z))
-          (calm, lasts_no_jam M (slot M s).next (unmarked_lasts M (slot M s).next there safe)) in
+      (plays, subst (λ x. legal M x (picked M s) ≡ true) (sym e) (picked_legal M law s h z), subst (λ x. M.leads x (picked M s) (slot M s).next ≡ true) (sym e) (next_leads M law s h z))
+      (calm, lasts_no_jam M (slot M s).next (unmarked_lasts M (slot M s).next there safe)) in
       record { plays = more.plays; no_jam = more.no_jam; made = (slot_made p s e h z, more.made); ends = more.ends }
 
   -- the slots from a safe state are a safe course

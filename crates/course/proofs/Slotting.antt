@@ -1,22 +1,21 @@
 -- Slots from a state of mark 0.
-use Rattle.std.proofs.Common.{◌≡◌, ℕ, suc, ◌<◌, true, eqb, List, length, Some, None, Option, sym, refl, ap, ◌∙◌}
+use Rattle.std.proofs.Common.{◌≡◌, ℕ, suc, ◌<◌, true, eqb, List, Some, None, Option, sym, refl, ap, ◌∙◌}
 use Rattle.std.proofs.Math.Path.{fun_ext}
 use Rattle.std.specs.Option.{option_or}
 use Rattle.std.proofs.lemmas.Bool.{both_ways}
 use Rattle.traffic.specs.Searches.{least, or_zero}
 use Rattle.traffic.specs.Meaning.{Meaning, Lawful, legal}
 use Rattle.game.specs.Game.{mark, permitted, permitted_by}
-use Rattle.game.specs.Choice.{pick_by, spoiler_by}
+use Rattle.game.specs.Choice.{pick_by}
 use Rattle.game.specs.Standing.{on}
-use Rattle.game.specs.Maps.{turned_away, Filled}
+use Rattle.game.specs.Maps.{Filled}
 use Rattle.game.proofs.Kept.{legal_low, keeps_same}
 use Rattle.game.proofs.Rounds.{unmarked_lasts}
 use Rattle.game.proofs.Rules.{permitted_legal, lasts_permitted}
 use Rattle.game.proofs.Choosing.{pick_found, pick_absent, spoiler_same}
-use Rattle.game.proofs.Admitted.{not_turned_away}
 use Rattle.game.proofs.Sustained.{by_next}
 use Rattle.course.specs.Plants.{reply_by}
-use Rattle.course.specs.Slots.{SafeOn, picked, slot}
+use Rattle.course.specs.Slots.{picked, slot}
 use Rattle.course.proofs.Replying.{replied}
 
 module _ (M : Meaning) (law : Lawful M) (s : ℕ) (inside : s < M.states) (unmarked : mark M s ≡ 0) where
@@ -72,4 +71,3 @@ module _ (M : Meaning) (map : List ℕ) (full : Filled M map) (s : ℕ) where
   pub reply_same : (m : ℕ) → reply_by M (on map) s m ≡ reply_by M (mark M) s m
   unfolding reply_by
   reply_same m = ap (λ o. option_or o (least (M.leads s m) 0 M.states)) (spoiler_same M (on map) (mark M) full s m)
-

@@ -1,7 +1,6 @@
 -- The play that is lost where there is no schedule.
-use Rattle.std.specs.Prelude.{◌≡◌, ℕ, zero, suc, ◌<◌, ◌≤◌, true, false, List, [], ◌∷◌, ◌++◌, length, take, drop, Some, None, Ok, Option, Result}
+use Rattle.std.specs.Prelude.{◌≡◌, ℕ, zero, suc, ◌≤◌, true, false, List, [], ◌∷◌, ◌++◌, length, take, drop, Some, None, Ok, Option, Result}
 use Rattle.std.specs.Option.{option_map}
-use Rattle.std.specs.List.{All}
 use Rattle.traffic.specs.Searches.{least, or_zero}
 use Rattle.traffic.specs.Meaning.{Meaning, legal, jam}
 use Rattle.game.specs.declared.map_fault.MapFault.{MapFault}

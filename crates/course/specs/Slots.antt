@@ -1,5 +1,5 @@
 -- What running slots leaves, and what it is as a play.
-use Rattle.std.specs.Prelude.{◌≡◌, ℕ, zero, suc, ◌<◌, ◌≤◌, true, cond, List, [], ◌∷◌, length, Ok, Err, is_ok, Result}
+use Rattle.std.specs.Prelude.{◌≡◌, ℕ, zero, suc, ◌<◌, ◌≤◌, true, cond, List, [], ◌∷◌, length, Ok, is_ok, Result}
 use Rattle.traffic.specs.Searches.{or_zero}
 use Rattle.traffic.specs.Meaning.{Meaning}
 use Rattle.traffic.specs.Answered.{within_limits}

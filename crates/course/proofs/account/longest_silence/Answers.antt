@@ -1,6 +1,4 @@
-use Rattle.std.proofs.Common.{◌≡◌, ◌<◌, ◌≤◌, ◌+◌, max, length, get_or, sym, ap, rules, ◌∙◌, arith}
-use Rattle.course.specs.declared.check.Check.{Check}
-use Rattle.course.specs.Account.{silence_after}
+use Rattle.std.proofs.Common.{◌≡◌, ◌≤◌, ◌+◌, max, rules, ◌∙◌, arith}
 use Rattle.course.proofs.Silences.{bounded, more, done}
 use Rattle.course.proofs.account.longest_silence.Goals as goal
 

@@ -1,4 +1,4 @@
-use Rattle.std.proofs.Common.{◌≡◌, sym, ◌∙◌}
+use Rattle.std.proofs.Common.{sym, ◌∙◌}
 use Rattle.game.specs.Standing.{on}
 use Rattle.game.proofs.Admitted.{admitted}
 use Rattle.course.proofs.Calls.{not_absent}

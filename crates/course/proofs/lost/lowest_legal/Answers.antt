@@ -1,4 +1,4 @@
-use Rattle.std.proofs.Common.{◌≡◌, ◌≤◌, ◌<◌, suc, sym, ap, ◌∙◌, arith}
+use Rattle.std.proofs.Common.{◌≤◌, sym, arith}
 use Rattle.traffic.specs.Found.{least_is_none}
 use Rattle.course.proofs.Legals.{legal_here, none_more}
 use Rattle.course.proofs.lost.lowest_legal.Goals as goal

@@ -1,5 +1,4 @@
 use Rattle.std.proofs.Common.{◌≡◌, ◌<◌, ◌≤◌, length, sym, ◌∙◌, arith}
-use Rattle.game.specs.Standing.{on}
 use Rattle.course.proofs.Losing.{none_left, no_room, next_admitted, play_more, behind_more, all_made, all_noted}
 use Rattle.course.proofs.lost.note_play.Goals as goal
 

@@ -1,4 +1,4 @@
-use Rattle.std.proofs.Common.{◌<◌, ◌≤◌, length, sym, ap, ◌∙◌, arith}
+use Rattle.std.proofs.Common.{◌<◌, ◌≤◌, length, ap, ◌∙◌, arith}
 use Rattle.keeper.specs.declared.slot.Ready.{Ready}
 use Rattle.course.proofs.Calls.{still_safe}
 use Rattle.course.proofs.Running.{state_more, row_more, state_done, row_done}

@@ -1,5 +1,4 @@
-use Rattle.std.proofs.Common.{◌≡◌, ◌∙◌}
-use Rattle.course.specs.Slots.{picked}
+use Rattle.std.proofs.Common.{◌∙◌}
 use Rattle.course.proofs.Calls.{pick_answer, picked_mv, granted_is, replied_is, reported_is, slot_is, ok_is, some_is, no_refusal, not_absent}
 use Rattle.course.proofs.slots.run_slot.Goals as goal
 
