@@ -1,13 +1,15 @@
-//! A check: a state, a move and the next state, and how they are printed.
+//! How checks are printed.
 use anyhow::anyhow;
+use course::check::Check;
 use site::site::Site;
 use std::fmt;
-use traffic::Traffic;
 
-/// Whether a state is a jam: two or more loops are due. A state that the site does not have counts as one.
-pub fn is_jam(site: &Site, state: usize) -> bool {
-    site.due(state).is_none_or(|due| due >= 2)
-}
+/// A place of a record in which no check is noted yet.
+pub const UNUSED: Check = Check {
+    state: 0,
+    mv: 0,
+    next: 0,
+};
 
 /// The states of the four loops.
 #[derive(Clone, Copy)]
@@ -56,21 +58,14 @@ impl fmt::Display for Move {
     }
 }
 
-/// A move in a state, and the state that the plants replied.
-#[derive(Clone, Copy)]
-pub struct Check {
-    pub state: usize,
-    pub mv: usize,
-    pub next: usize,
-}
-
-impl Check {
-    // No Display: it needs the site, and a state that the site has not ends the program.
-    pub fn print(self, rt: &HostRuntime, site: &Site, number: u32) -> anyhow::Result<()> {
-        let before = Group::of(site, self.state)?;
-        let mv = Move::from(self.mv);
-        let after = Group::of(site, self.next)?;
+/// Prints the checks, numbered from 1.
+// No Display: it needs the site, and a state that the site has not ends the program.
+pub fn print_checks(rt: &HostRuntime, site: &Site, checks: &[Check]) -> anyhow::Result<()> {
+    for (number, check) in (1..=checks.len()).zip(checks) {
+        let before = Group::of(site, check.state)?;
+        let mv = Move::from(check.mv);
+        let after = Group::of(site, check.next)?;
         println!(rt; "check {number}: {before}, {mv}, then {after}")?;
-        Ok(())
     }
+    Ok(())
 }

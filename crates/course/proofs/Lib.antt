@@ -1,0 +1,10 @@
+mod Replying
+mod Slotting
+mod Calls
+mod Running
+mod SafeCourses
+mod Silences
+mod JamsTold
+mod Legals
+mod Losing
+mod IntoJam

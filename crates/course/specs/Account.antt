@@ -1,0 +1,34 @@
+-- What a course of checks came to.
+use Rattle.std.specs.Prelude.{◌≡◌, ℕ, suc, max, Bool, true, false, cond, ◌||◌, ◌↔◌, List, [], ◌∷◌, Some, None, Option, nat_eq, nat_le}
+use Rattle.std.specs.List.{list_any, count_by}
+use Rattle.traffic.specs.Meaning.{Meaning}
+use Rattle.traffic.specs.Answered.{within_limits, due_of}
+use Rattle.game.specs.Plays.{Play, NoJamMet}
+use Rattle.course.specs.declared.check.Check.{Check}
+use Rattle.course.specs.Courses.{course_of}
+
+-- how often the loop of this number sent
+abbrev pub sends : ℕ → List Check → ℕ
+sends place cs = count_by (λ (c : Check). nat_eq c.mv place) cs
+
+-- the longest silence, where no loop had sent for `run` checks before these
+unfoldable pub silence_after : ℕ → List Check → ℕ
+silence_after run [] = run
+silence_after run (c ∷ cs) = cond (nat_eq c.mv 0) (silence_after (suc run) cs) (max run (silence_after 0 cs))
+
+abbrev pub longest_silence : List Check → ℕ
+longest_silence cs = silence_after 0 cs
+
+-- a state is a jam by what is told of the loops due in it; one of which nothing is told counts as one
+abbrev pub jam_told : Option ℕ → Bool
+jam_told None = true
+jam_told (Some due) = nat_le 2 due
+
+-- the start is a jam, or some state that was come to
+abbrev pub meets_jam : Meaning → ℕ → List Check → Bool
+meets_jam M start cs = jam_told (due_of M start) || list_any (λ (c : Check). jam_told (due_of M c.next)) cs
+
+-- of a play it is told exactly whether a state of it is a jam
+abbrev pub TellsJam : Meaning → ℕ → List Check → Bool → Type 0
+TellsJam M start cs met =
+    within_limits M ≡ true → Play M (course_of start cs) → (met ≡ false) ↔ NoJamMet M (course_of start cs)

@@ -1,0 +1,5 @@
+pub mod Plants
+pub mod Courses
+pub mod Slots
+pub mod Account
+pub mod Lost
