@@ -5,12 +5,15 @@
 //! that the first three have mark 0 and the fourth has mark 1. A line that begins with `#` is a comment.
 //! One that begins with `!` is wrong on purpose: a difference is to be found, and is printed.
 //!
-//! The whole map is compared: the marks, and what is behind them. An accepted file is also written back.
+//! The whole map is compared: the marks, and what is behind them. An accepted file is also written back. Where another file
+//! than this is to be written back, `; written ` and that file in hex follow; so only a line that is wrong on purpose ends.
 #![tactic(auto)]
 
 use crate::case::Case;
-use crate::map::{ROOM, UNMARKED, expected_map, first_difference};
+use crate::map::{ROOM, UNMARKED, expected_map, read_runs};
 use anyhow::anyhow;
+use cases::difference::first_difference;
+use cases::hex::unhex;
 use site::site::Site;
 use site_write::write::{WriteFault, write_site};
 use std::alloc::{AllocError, Global};
@@ -107,15 +110,6 @@ fn is_too_short(heap: Global, site: &Site, wanted: usize) -> Result<bool, AllocE
     Ok(answer == Err(WriteFault::TooShort(wanted)) && is_untouched(&out))
 }
 
-/// Whether a file, once loaded, is written back.
-fn comes_back(heap: Global, file: &[u8]) -> Result<bool, AllocError> {
-    let mut site = Site::new();
-    if site.load(heap, file).is_err() {
-        return Ok(false);
-    }
-    Ok(is_written_as(heap, &site, file)? && is_too_short(heap, &site, file.len())?)
-}
-
 /// Whether a verdict's lines are those expected.
 fn is_said_as(verdict: &str, expected: &str) -> bool {
     let mut wanted = expected.split(", ");
@@ -139,7 +133,11 @@ fn verdict_agrees(rt: &HostRuntime, case: Case<'_>, verdict: Verdict) -> anyhow:
 
 /// Whether the whole map is as expected. The first difference is printed.
 fn map_agrees(rt: &HostRuntime, case: Case<'_>, map: &[u16]) -> anyhow::Result<bool> {
-    let expected = expected_map(rt.alloc(), case.marks)?;
+    let runs = read_runs(rt.alloc(), case.marks)?;
+    let Some(expected) = expected_map(rt.alloc(), &runs)? else {
+        println!(rt; "{}: more marks than a map has room for", case.hex)?;
+        return Ok(false);
+    };
     let difference = first_difference(map, &expected);
     if let Some(difference) = difference {
         println!(rt; "{}: {difference}", case.hex)?;
@@ -147,29 +145,66 @@ fn map_agrees(rt: &HostRuntime, case: Case<'_>, map: &[u16]) -> anyhow::Result<b
     Ok(difference.is_none())
 }
 
-/// Whether the file is written back. It is printed where it is not.
-fn file_agrees(rt: &HostRuntime, case: Case<'_>, file: &[u8]) -> anyhow::Result<bool> {
-    let agrees = comes_back(rt.alloc(), file)?;
-    if !agrees {
-        println!(rt; "{}: not written back", case.hex)?;
+/// Whether the site is written as expected, and refused where the buffer is too short. What is not so is printed.
+fn write_agrees(
+    rt: &HostRuntime,
+    case: Case<'_>,
+    site: &Site,
+    expected: &[u8],
+) -> anyhow::Result<bool> {
+    let written = is_written_as(rt.alloc(), site, expected)?;
+    if !written {
+        println!(rt; "{}: not written back as {}", case.hex, case.written)?;
     }
-    Ok(agrees)
+    let refused = is_too_short(rt.alloc(), site, expected.len())?;
+    if !refused {
+        println!(rt; "{}: a byte too few is not refused as expected", case.hex)?;
+    }
+    Ok(written && refused)
 }
 
-fn compare_case(rt: &HostRuntime, tally: &mut Tally, case: Case<'_>) -> anyhow::Result<()> {
-    let file = case.file(rt.alloc())?;
+/// Whether the file, once loaded, is written back.
+fn file_agrees(rt: &HostRuntime, case: Case<'_>, file: &[u8]) -> anyhow::Result<bool> {
+    let mut site = Site::new();
+    let is_loaded = site.load(rt.alloc(), file).is_ok();
+    let expected = unhex(rt.alloc(), case.written.as_bytes())?;
+    match expected {
+        Some(expected) if is_loaded => write_agrees(rt, case, &site, &expected),
+        _ => {
+            println!(rt; "{}: not loaded, or no file expected", case.hex)?;
+            Ok(false)
+        }
+    }
+}
+
+fn compare_file(
+    rt: &HostRuntime,
+    tally: &mut Tally,
+    case: Case<'_>,
+    file: &[u8],
+) -> anyhow::Result<()> {
     let mut map = [UNMARKED; ROOM];
-    let verdict = Verdict::of(rt.alloc(), &file, &mut map)?;
+    let verdict = Verdict::of(rt.alloc(), file, &mut map)?;
     tally.verdicts.add(verdict_agrees(rt, case, verdict)?);
     let same_map = map_agrees(rt, case, &map)?;
     match verdict {
         Verdict::Refused(_) => tally.left_alone.add(same_map),
         _ => {
             tally.maps.add(same_map);
-            tally.written_back.add(file_agrees(rt, case, &file)?);
+            tally.written_back.add(file_agrees(rt, case, file)?);
         }
     }
     Ok(())
+}
+
+/// A text that is no hex has no file and so no verdict.
+fn compare_case(rt: &HostRuntime, tally: &mut Tally, case: Case<'_>) -> anyhow::Result<()> {
+    let Some(file) = unhex(rt.alloc(), case.hex.as_bytes())? else {
+        println!(rt; "{}: no hex", case.hex)?;
+        tally.verdicts.add(false);
+        return Ok(());
+    };
+    compare_file(rt, tally, case, &file)
 }
 
 /// A comparison that finds no difference shows something only where it would find one.

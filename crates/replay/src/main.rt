@@ -3,41 +3,16 @@
 //! Three arguments stand for one replay: a site file, the start, and a text file of calls. More such groups may follow.
 //!
 //! A line of a text file is a call: `permits M`, `pick`, `grant M`, `report S`, `permits M in S` or `spoiler M in S`, with
-//! a move M and a state S. Empty lines, and lines that begin with `#`, are skipped.
+//! a move M and a state S. Empty lines, and lines that begin with `#`, are skipped. A line that is no call, a start that is
+//! no number and a file that is no site file are told, and end nothing.
 #![tactic(auto)]
 
 use anyhow::anyhow;
+use calls::{call_in, call_with, number};
 use keeper::service::{Call, Exchange, Keeper};
 use keeper::serving::serve;
 use site::site::Site;
 use std::{env, fs, io};
-
-fn number(word: &str) -> Option<usize> {
-    word.parse().ok()
-}
-
-// By functions of its own: the text of a call is this program's, and FromStr cannot stand here for a type of another crate.
-/// A call that names a move or a state.
-fn call_with(name: &str, word: &str) -> Option<Call> {
-    let n = number(word)?;
-    match name {
-        "permits" => Some(Call::Permits(n)),
-        "grant" => Some(Call::Grant(n)),
-        "report" => Some(Call::Report(n)),
-        _ => None,
-    }
-}
-
-/// A call that names a move in a state.
-fn call_in(name: &str, mv: &str, state: &str) -> Option<Call> {
-    let mv = number(mv)?;
-    let state = number(state)?;
-    match name {
-        "permits" => Some(Call::PermitsIn { state, mv }),
-        "spoiler" => Some(Call::Spoiler { state, mv }),
-        _ => None,
-    }
-}
 
 fn read_call(line: &str) -> Option<Call> {
     let mut words = line.split(' ');
@@ -55,16 +30,17 @@ fn read_call(line: &str) -> Option<Call> {
     }
 }
 
-fn read_calls(rt: &HostRuntime, name: &str) -> anyhow::Result<Vec<Exchange>> {
-    let text = fs::read_to_string(rt, name)?;
+/// The calls of a text. A line that is none is told and left out.
+fn read_calls(rt: &HostRuntime, text: &str) -> anyhow::Result<Vec<Exchange>> {
     let mut exchanges = Vec::new(rt.alloc());
-    for (i, line) in text.as_str().lines().enumerate() {
+    for (i, line) in text.lines().enumerate() {
         if line.is_empty() || line.starts_with('#') {
             continue;
         }
-        let at = i + 1;
-        let call = read_call(line).ok_or_else(|| anyhow!("line {at} of {name} is no call"))?;
-        exchanges.push(Exchange { call, answer: None })?;
+        match read_call(line) {
+            Some(call) => exchanges.push(Exchange { call, answer: None })?,
+            None => println!(rt; "line {} is no call", i + 1)?,
+        }
     }
     Ok(exchanges)
 }
@@ -92,12 +68,32 @@ fn replay_on(
     Ok(())
 }
 
+/// The site of a file. The fault of a file that has none is told.
+fn read_site(rt: &HostRuntime, name: &str) -> anyhow::Result<Option<Site>> {
+    let file = fs::read(rt, name)?;
+    match Site::read(rt.alloc(), &file) {
+        Ok(site) => Ok(Some(site)),
+        Err(fault) => {
+            let report = fault
+                .report()
+                .ok_or_else(|| anyhow!("no memory for a site"))?;
+            println!(rt; "{report}")?;
+            Ok(None)
+        }
+    }
+}
+
 fn replay(rt: &HostRuntime, site: &str, start: &str, calls: &str) -> anyhow::Result<()> {
     println!(rt; "# {site} {start} {calls}")?;
-    let start = number(start).ok_or_else(|| anyhow!("a start is a number"))?;
-    let file = fs::read(rt, site)?;
-    let site = Site::read(rt.alloc(), &file).map_err(|_| anyhow!("a file is no site file"))?;
-    let mut exchanges = read_calls(rt, calls)?;
+    let Some(start) = number(start) else {
+        println!(rt; "a start is a number")?;
+        return Ok(());
+    };
+    let Some(site) = read_site(rt, site)? else {
+        return Ok(());
+    };
+    let text = fs::read_to_string(rt, calls)?;
+    let mut exchanges = read_calls(rt, text.as_str())?;
     let mut map = [0u16; 32768];
     replay_on(rt, &site, start, &mut map, &mut exchanges)
 }
