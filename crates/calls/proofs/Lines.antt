@@ -35,13 +35,15 @@ first_has_no_blank (PermitsIn s m) i lt = grind (arith, common_steps)
 first_has_no_blank (Spoiler s m) i lt = grind (arith, common_steps)
 
 -- a text that is cut at its first blank is no number
-no_number : (text : List ℕ) (x y : Bor (List ℕ)) → IsSplitOnceResult 32 text (Some (x, y)) → (n : ℕ) → n < 2 ^ 64 → text ≡ decimal n → ⊥
+no_number : (text : List ℕ) (x y : Bor (List ℕ)) → IsSplitOnceResult 32 text (Some (x, y)) →
+    (n : ℕ) → n < 2 ^ 64 → text ≡ decimal n → ⊥
 no_number text x y split n small e =
     let whole = sym e ∙ (split_parts 32 text (Some (x, y)) split (omega arith)).0 in
     no_blank n small (length x.now) (rw whole (grind (arith, common_steps))) (rw whole (get_or_at x.now 32 y.now 0 (length x.now) refl))
 
 -- a line that is not `pick`, cut at its first blank
-module _ (line : List ℕ) (name numbers : Bor (List ℕ)) (split : IsSplitOnceResult 32 line (Some (name, numbers))) (no_pick : line ≢ codes "pick") where
+module _ (line : List ℕ) (name numbers : Bor (List ℕ)) (split : IsSplitOnceResult 32 line (Some (name, numbers)))
+    (no_pick : line ≢ codes "pick") where
   cut : (c : Call) → line ≡ first_word c ++ (32 ∷ other_words c) → (name.now ≡ first_word c) × (numbers.now ≡ other_words c)
   cut c e = split_after 32 line (first_word c) (other_words c) (Some (name, numbers)) split (omega arith) e (first_has_no_blank c)
 
@@ -72,8 +74,8 @@ module _ (line : List ℕ) (name numbers : Bor (List ℕ)) (split : IsSplitOnceR
   with_state mv place again (Grant m) is = absurd (no_number numbers.now mv place again m is.small (cut (Grant m) is.printed).1)
   with_state mv place again (Report t) is = absurd (no_number numbers.now mv place again t is.small (cut (Report t) is.printed).1)
 
-  pub placed : (mv place : Bor (List ℕ)) (state : List ℕ) → IsSplitOnceResult 32 numbers.now (Some (mv, place)) → place.now ≡ codes "in " ++ state →
-      (c : Call) → CallLine line c → Placed name.now mv.now state c
+  pub placed : (mv place : Bor (List ℕ)) (state : List ℕ) → IsSplitOnceResult 32 numbers.now (Some (mv, place)) →
+      place.now ≡ codes "in " ++ state → (c : Call) → CallLine line c → Placed name.now mv.now state c
   placed mv place state again after c is =
       let found = with_state mv place again c is in
       subst (λ t. Placed name.now mv.now t c) (ap (drop 3) (sym found.1 ∙ after)) found.2
@@ -88,7 +90,8 @@ line_of_numbered line name numbers e (PermitsIn s m) is = absurd is
 line_of_numbered line name numbers e (Spoiler s m) is = absurd is
 
 -- the line of a call that names a move and a state
-pub line_of_placed : (line name mv state : List ℕ) → line ≡ name ++ (32 ∷ (mv ++ (32 ∷ (codes "in " ++ state)))) → (c : Call) → Placed name mv state c → CallLine line c
+pub line_of_placed : (line name mv state : List ℕ) → line ≡ name ++ (32 ∷ (mv ++ (32 ∷ (codes "in " ++ state)))) →
+    (c : Call) → Placed name mv state c → CallLine line c
 line_of_placed line name mv state e (PermitsIn s m) is = record { small = (is.2.small, is.1.small); printed = rw (e, is.0, is.1.printed, is.2.printed) refl }
 line_of_placed line name mv state e (Spoiler s m) is = record { small = (is.2.small, is.1.small); printed = rw (e, is.0, is.1.printed, is.2.printed) refl }
 line_of_placed line name mv state e (Permits m) is = absurd is

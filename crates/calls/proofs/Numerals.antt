@@ -30,8 +30,8 @@ no_zero_first word (suc n) first more is =
     omega (arith, above, same)
 
 -- what else is read
-pub read_plain : (E : Type 0) (word : List ℕ) (r : Result ℕ E) → ParsesUnsigned 64 10 word r → get_or word 0 0 ≢ 43 → (get_or word 0 0 ≡ 48 → length word ≤ 1) →
-    Finds (Numeral word) (result_ok r)
+pub read_plain : (E : Type 0) (word : List ℕ) (r : Result ℕ E) → ParsesUnsigned 64 10 word r →
+    get_or word 0 0 ≢ 43 → (get_or word 0 0 ≡ 48 → length word ≤ 1) → Finds (Numeral word) (result_ok r)
 read_plain E word (Ok n) parsed plus zeros x =
     let p = parse_plain numerals {E = E} 64 word (Ok n) parsed plus in
     let digits = p.0.0 in

@@ -1,13 +1,14 @@
-//! Makes a call of a keeper from the words in which it is printed.
+//! Makes a call of a keeper from the line in which it is printed.
 //!
 //! A call is `permits M`, `pick`, `grant M`, `report S`, `permits M in S` or `spoiler M in S`, with a move M and a state S.
+//! One blank stands between two words. A number is written in digits alone, and no other digit follows a leading zero.
 #![tactic(auto)]
 
 ghost use Rattle.calls.specs.Reading.{Finds, Numeral, CallLine, Numbered, Placed};
 
 use keeper::service::Call;
 
-/// The number that a word is. It is written in digits alone, and no other digit follows a leading zero.
+/// The number that a word is.
 pub fn number(word: &str) -> Option<usize>
     ensures { Finds (Numeral word.now) result }
 {
@@ -18,7 +19,7 @@ pub fn number(word: &str) -> Option<usize>
 }
 
 // A function of its own: FromStr cannot stand here for a type of another crate.
-/// The call that a line is, from its first word to its last.
+/// The call that a line is.
 pub fn read_call(line: &str) -> Option<Call>
     ensures { Finds (CallLine line.now) result }
 {
