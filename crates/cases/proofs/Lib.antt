@@ -1,1 +1,5 @@
 pub mod Ends
+pub mod Reading
+pub mod RunsRead
+pub mod Words
+pub mod Buffers

@@ -1,3 +1,5 @@
 pub mod Hex
 pub mod Differences
 pub mod Runs
+pub mod Words
+pub mod Buffers

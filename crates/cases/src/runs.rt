@@ -1,6 +1,9 @@
 //! Marks in runs.
-ghost use Rattle.std.specs.Prelude.{◌≡◌, IfOk, MatchOption, Some, None};
+ghost use Rattle.std.specs.Prelude.{◌≡◌, IfOk, IsSomeAnd, MatchOption, Some, None, List};
+ghost use Rattle.std.specs.List.{All};
+ghost use Rattle.cases.specs.declared.runs.Run.{Run as RunOf};
 ghost use Rattle.cases.specs.Runs.{marks_of, within, map_in};
+ghost use Rattle.cases.specs.Words.{words_of, IsRun, number_of, run_of, runs_of};
 
 use std::alloc::{AllocError, Global};
 
@@ -41,4 +44,44 @@ pub fn map_of(
     };
     map.resize(room, unmarked)?;
     Ok(Some(map))
+}
+
+fn number(word: &str) -> Option<u16>
+    ensures { result ≡ number_of word.now }
+{
+    word.parse().ok()
+}
+
+// By a function of its own: `MARK*COUNT`, or `MARK` for a single state.
+fn read_run(word: &str) -> Option<Run>
+    ensures { result ≡ run_of word.now }
+{
+    match word.split_once('*') {
+        Some((mark, count)) => Some(Run {
+            mark: number(mark)?,
+            count: number(count)?,
+        }),
+        None => Some(Run {
+            mark: number(word)?,
+            count: 1,
+        }),
+    }
+}
+
+/// The runs of a text, `MARK*COUNT` or `MARK` for a single state, with a blank between them; none where it is no runs.
+pub fn read_runs(heap: Global, text: &str) -> Result<Option<Vec<Run>>, AllocError>
+    ensures read { IfOk result (λ found. MatchOption found (runs_of text.now ≡ None) (λ runs. runs_of text.now ≡ Some runs.items)) }
+    ensures printed { (rs : List RunOf) → All IsRun rs → text.now ≡ words_of rs → IfOk result (λ found. IsSomeAnd found (λ runs. runs.items ≡ rs)) }
+{
+    let mut runs = Vec::new(heap);
+    if text.is_empty() {
+        return Ok(Some(runs));
+    }
+    for word in text.split(' ') {
+        let Some(run) = read_run(word) else {
+            return Ok(None);
+        };
+        runs.push(run)?;
+    }
+    Ok(Some(runs))
 }
