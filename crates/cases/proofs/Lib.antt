@@ -3,3 +3,4 @@ pub mod Reading
 pub mod RunsRead
 pub mod Words
 pub mod Buffers
+pub mod InOne

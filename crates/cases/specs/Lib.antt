@@ -3,3 +3,4 @@ pub mod Differences
 pub mod Runs
 pub mod Words
 pub mod Buffers
+pub mod Lines

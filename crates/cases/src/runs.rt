@@ -52,7 +52,7 @@ fn number(word: &str) -> Option<u16>
     word.parse().ok()
 }
 
-// By a function of its own: `MARK*COUNT`, or `MARK` for a single state.
+// `MARK*COUNT`, or `MARK` for a single state.
 fn read_run(word: &str) -> Option<Run>
     ensures { result ≡ run_of word.now }
 {

@@ -15,6 +15,7 @@ use anyhow::anyhow;
 use cases::buffer::holds;
 use cases::difference::first_difference;
 use cases::hex::unhex;
+use cases::lines::are_told_as;
 use cases::runs::read_runs;
 use site::site::Site;
 use site_write::write::{WriteFault, write_site};
@@ -108,21 +109,10 @@ fn is_too_short(heap: Global, site: &Site, wanted: usize) -> Result<bool, AllocE
     Ok(answer == Err(WriteFault::TooShort(wanted)) && holds(&out, &[], UNTOUCHED))
 }
 
-/// Whether a verdict's lines are those expected.
-fn is_said_as(verdict: &str, expected: &str) -> bool {
-    let mut wanted = expected.split(", ");
-    for line in verdict.lines() {
-        if wanted.next() != Some(line) {
-            return false;
-        }
-    }
-    wanted.next().is_none()
-}
-
 /// Whether the verdict is the one expected. It is printed where it is another.
 fn verdict_agrees(rt: &HostRuntime, case: Case<'_>, verdict: Verdict) -> anyhow::Result<bool> {
     let said = format!(in rt.alloc(); "{verdict}")?;
-    let agrees = is_said_as(said.as_str(), case.verdict);
+    let agrees = are_told_as(said.as_str(), case.verdict);
     if !agrees {
         println!(rt; "{}: expected {}, found\n{said}", case.hex, case.verdict)?;
     }

@@ -8,11 +8,15 @@ use Rattle.cases.proofs.buffer.holds.Goals as goal
 
 pub returns-in-Some : goal.returns-in-Some
 returns-in-Some c =
-    let cut = rw c.in-Some.is at (strip_prefix_is Decides-eqb c.args.buffer.now c.args.file.now c.strip_prefix.result c.strip_prefix.ensures.cases) in
-    let all = all_from_yields_List (λ b. eqb b c.args.behind) _ _ _ c.all.ensures.ran (YieldsList-from_slice c.in-Some.rest.now c.iter.ensures.rest) (λ x b q k. search (rules, tests)) in
-    holds_by_rest c.args.buffer.now c.args.file.now c.in-Some.rest.now c.args.behind c.all.result cut all
+    let buffer = c.args.buffer.now in
+    let cut = rw c.in-Some.is at (strip_prefix_is Decides-eqb buffer c.args.file.now _ c.strip_prefix.ensures.cases) in
+    let all =
+    all_from_yields_List (λ b. eqb b c.args.behind) _ _ _ c.all.ensures.ran (YieldsList-from_slice c.in-Some.rest.now c.iter.ensures.rest)
+    (λ x b q k. search (rules, tests)) in
+    holds_by_rest buffer c.args.file.now c.in-Some.rest.now c.args.behind c.all.result cut all
 
 pub returns-in-None : goal.returns-in-None
 returns-in-None c =
-    let cut = rw c.in-None.is at (strip_prefix_is Decides-eqb c.args.buffer.now c.args.file.now c.strip_prefix.result c.strip_prefix.ensures.cases) in
+    let buffer = c.args.buffer.now in
+    let cut = rw c.in-None.is at (strip_prefix_is Decides-eqb buffer c.args.file.now _ c.strip_prefix.ensures.cases) in
     (λ e. absurd (search rules), λ p. absurd (cut _ p.1))
