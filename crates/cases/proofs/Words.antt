@@ -1,5 +1,5 @@
 -- The words of runs are read as these runs.
-use Rattle.std.proofs.Common.{◌≡◌, ℕ, ◌^◌, ◌<◌, ◌==◌, eqb, cond, Bool, true, false, length, map, List, [], ◌∷◌, ◌++◌, Some, None, sym, refl, ap, ◌∙◌, arith}
+use Rattle.std.proofs.Common.{◌≡◌, ℕ, ◌^◌, ◌<◌, ◌==◌, eqb, cond, Bool, true, false, length, map, List, [], ◌∷◌, ◌++◌, Option, Some, sym, refl, ap, ◌∙◌, arith}
 use Rattle.std.specs.Prelude.{decimal}
 use Rattle.std.specs.List.{All, slice_split, join_with_byte, position_or_len, before_first, after_first}
 use Rattle.std.specs.Str.Parse.{AllDigits, without_leading_plus}
@@ -10,9 +10,8 @@ use Rattle.std.proofs.Math.Seq.{take-append_seam, drop-append-add}
 use Rattle.std.proofs.lemmas.List.Splits.{slice_split_none, slice_split_at}
 use Rattle.std.proofs.lemmas.List.Elements.{All-nil, All-cons, All-head, All-tail, All-append, All-map, All-weaker}
 use Rattle.std.proofs.lemmas.Bool.Decides.{nat_tests}
-use Rattle.std.proofs.lemmas.Option.{same_Some, none-some}
 use Rattle.cases.specs.declared.runs.Run.{Run}
-use Rattle.cases.specs.Words.{is_blank, is_star, has_star, word_of, words_of, IsRun, number_of, run_of, runs_in, runs_of}
+use Rattle.cases.specs.Words.{is_blank, is_star, has_star, word_of, words_of, IsRun, ReadsBack, number_of, run_of, runs_in, runs_of}
 use Rattle.cases.proofs.RunsRead.{in_words}
 use Rattle.cases.proofs.Reading.{own, is_number, is_number-decides}
 
@@ -112,10 +111,6 @@ words_back (r ∷ rs) fit =
     in_words (words_of (r ∷ rs)) (not_empty (word_of r) (map word_of rs) long)
     ∙ ap runs_in (words_cut (word_of r) (map word_of rs) solid) ∙ all_back (r ∷ rs) fit
 
--- so a text of printed runs is read as them
-pub printed : (text : List ℕ) (found : List Run) → runs_of text ≡ Some found → (rs : List Run) → All IsRun rs → text ≡ words_of rs → found ≡ rs
-printed text found read rs fit e = same_Some found rs (sym read ∙ ap runs_of e ∙ words_back rs fit)
-
--- and is never refused
-pub not_refused : (text : List ℕ) → runs_of text ≡ None → (rs : List Run) → All IsRun rs → text ≡ words_of rs → ⊥
-not_refused text read rs fit e = none-some rs (sym read ∙ ap runs_of e ∙ words_back rs fit)
+-- so what is read of a text is read back
+pub reads_back : (text : List ℕ) (found : Option (List Run)) → found ≡ runs_of text → ReadsBack text found
+reads_back text found read rs fit e = read ∙ ap runs_of e ∙ words_back rs fit

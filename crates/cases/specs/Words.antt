@@ -1,6 +1,6 @@
 -- Runs in words: `0*3 1` says that the first three states have mark 0 and the fourth has mark 1.
-use Rattle.std.specs.Prelude.{ℕ, ◌^◌, ◌<◌, Bool, cond, ◌&&◌, ◌==◌, nat_lt, length, map, List, [], ◌∷◌, ◌++◌, Option, Some, None, decimal}
-use Rattle.std.specs.List.{slice_split, join_with_byte, position_or_len, before_first, after_first}
+use Rattle.std.specs.Prelude.{◌≡◌, ℕ, ◌^◌, ◌<◌, Bool, cond, ◌&&◌, ◌==◌, nat_lt, length, map, List, [], ◌∷◌, ◌++◌, Option, Some, None, decimal}
+use Rattle.std.specs.List.{All, slice_split, join_with_byte, position_or_len, before_first, after_first}
 use Rattle.std.specs.Str.{byte, all_ascii_digits}
 use Rattle.std.specs.Str.Parse.{digits_value, without_leading_plus}
 use Rattle.cases.specs.declared.runs.Run.{Run}
@@ -16,6 +16,10 @@ words_of rs = join_with_byte (byte " ") (map word_of rs)
 -- the numbers of a run that the product can have
 abbrev pub IsRun : Run → Type 0
 IsRun r = (r.mark < 2 ^ 16) × (r.count < 2 ^ 16)
+
+-- whichever runs these are the words of, they are found in them
+abbrev pub ReadsBack : List ℕ → Option (List Run) → Type 0
+ReadsBack text found = (rs : List Run) → All IsRun rs → text ≡ words_of rs → found ≡ Some rs
 
 -- ---- and back
 

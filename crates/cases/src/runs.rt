@@ -1,9 +1,7 @@
 //! Marks in runs.
-ghost use Rattle.std.specs.Prelude.{◌≡◌, IfOk, IsSomeAnd, MatchOption, Some, None, List};
-ghost use Rattle.std.specs.List.{All};
-ghost use Rattle.cases.specs.declared.runs.Run.{Run as RunOf};
+ghost use Rattle.std.specs.Prelude.{◌≡◌, IfOk, MatchOption, Some, None, option_map};
 ghost use Rattle.cases.specs.Runs.{marks_of, within, map_in};
-ghost use Rattle.cases.specs.Words.{words_of, IsRun, number_of, run_of, runs_of};
+ghost use Rattle.cases.specs.Words.{number_of, run_of, runs_of, ReadsBack};
 
 use std::alloc::{AllocError, Global};
 
@@ -70,8 +68,8 @@ fn read_run(word: &str) -> Option<Run>
 
 /// The runs of a text, `MARK*COUNT` or `MARK` for a single state, with a blank between them; none where it is no runs.
 pub fn read_runs(heap: Global, text: &str) -> Result<Option<Vec<Run>>, AllocError>
-    ensures read { IfOk result (λ found. MatchOption found (runs_of text.now ≡ None) (λ runs. runs_of text.now ≡ Some runs.items)) }
-    ensures printed { (rs : List RunOf) → All IsRun rs → text.now ≡ words_of rs → IfOk result (λ found. IsSomeAnd found (λ runs. runs.items ≡ rs)) }
+    ensures read { IfOk result (λ found. option_map (λ runs. runs.items) found ≡ runs_of text.now) }
+    ensures printed { IfOk result (λ found. ReadsBack text.now (option_map (λ runs. runs.items) found)) }
 {
     let mut runs = Vec::new(heap);
     if text.is_empty() {
