@@ -10,8 +10,8 @@ no_difference p [] ys h = refl
 no_difference p (x ∷ xs) [] h = refl
 no_difference p (x ∷ xs) (y ∷ ys) h = absurd (omega arith)
 
--- more bytes behind those that were read
-abbrev pub behind : List ℕ → Option (List ℕ) → Option (List ℕ)
+-- more of them behind those that were read
+abbrev pub behind : {X : Type 0} → List X → Option (List X) → Option (List X)
 behind xs (Some ys) = Some (xs ++ ys)
 behind xs None = None
 

@@ -10,10 +10,13 @@
 #![tactic(auto)]
 
 use crate::case::Case;
-use crate::map::{ROOM, UNMARKED, expected_map, read_runs};
+use crate::map::{ROOM, UNMARKED, expected_map};
 use anyhow::anyhow;
+use cases::buffer::holds;
 use cases::difference::first_difference;
 use cases::hex::unhex;
+use cases::lines::are_told_as;
+use cases::runs::read_runs;
 use site::site::Site;
 use site_write::write::{WriteFault, write_site};
 use std::alloc::{AllocError, Global};
@@ -92,39 +95,24 @@ impl Tally {
     }
 }
 
-fn is_untouched(buffer: &[u8]) -> bool {
-    buffer.iter().all(|b| *b == UNTOUCHED)
-}
-
 /// Whether the site is written as `file`, with the buffer behind it left alone.
 fn is_written_as(heap: Global, site: &Site, file: &[u8]) -> Result<bool, AllocError> {
     let mut out = vec![in heap; UNTOUCHED; file.len().saturating_add(2)]?;
     let answer = write_site(site, &mut out);
-    Ok(answer == Ok(file.len()) && out.starts_with(file) && is_untouched(&out[file.len()..]))
+    Ok(answer == Ok(file.len()) && holds(&out, file, UNTOUCHED))
 }
 
 /// Whether a buffer one byte too short is refused, and stays as it was.
 fn is_too_short(heap: Global, site: &Site, wanted: usize) -> Result<bool, AllocError> {
     let mut out = vec![in heap; UNTOUCHED; wanted.saturating_sub(1)]?;
     let answer = write_site(site, &mut out);
-    Ok(answer == Err(WriteFault::TooShort(wanted)) && is_untouched(&out))
-}
-
-/// Whether a verdict's lines are those expected.
-fn is_said_as(verdict: &str, expected: &str) -> bool {
-    let mut wanted = expected.split(", ");
-    for line in verdict.lines() {
-        if wanted.next() != Some(line) {
-            return false;
-        }
-    }
-    wanted.next().is_none()
+    Ok(answer == Err(WriteFault::TooShort(wanted)) && holds(&out, &[], UNTOUCHED))
 }
 
 /// Whether the verdict is the one expected. It is printed where it is another.
 fn verdict_agrees(rt: &HostRuntime, case: Case<'_>, verdict: Verdict) -> anyhow::Result<bool> {
     let said = format!(in rt.alloc(); "{verdict}")?;
-    let agrees = is_said_as(said.as_str(), case.verdict);
+    let agrees = are_told_as(said.as_str(), case.verdict);
     if !agrees {
         println!(rt; "{}: expected {}, found\n{said}", case.hex, case.verdict)?;
     }
@@ -133,7 +121,9 @@ fn verdict_agrees(rt: &HostRuntime, case: Case<'_>, verdict: Verdict) -> anyhow:
 
 /// Whether the whole map is as expected. The first difference is printed.
 fn map_agrees(rt: &HostRuntime, case: Case<'_>, map: &[u16]) -> anyhow::Result<bool> {
-    let runs = read_runs(rt.alloc(), case.marks)?;
+    let runs = read_runs(rt.alloc(), case.marks)?.ok_or_else(|| anyhow!(
+        "no runs in the marks of a case"
+    ))?;
     let Some(expected) = expected_map(rt.alloc(), &runs)? else {
         println!(rt; "{}: more marks than a map has room for", case.hex)?;
         return Ok(false);
