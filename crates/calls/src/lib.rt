@@ -1,24 +1,41 @@
-//! Makes a call of a keeper from the words in which it is printed.
+//! Makes a call of a keeper from the line in which it is printed.
 //!
 //! A call is `permits M`, `pick`, `grant M`, `report S`, `permits M in S` or `spoiler M in S`, with a move M and a state S.
+//! One blank stands between two words. A number is written in digits alone, and no other digit follows a leading zero.
 #![tactic(auto)]
 
-ghost use Rattle.std.specs.Prelude.{◌≡◌, ℕ, ◌<◌, ◌^◌, Some, decimal};
-ghost use Rattle.calls.specs.Reading.{Numbered, Placed};
+ghost use Rattle.calls.specs.Reading.{Finds, Numeral, CallLine, Numbered, Placed};
 
 use keeper::service::Call;
 
 /// The number that a word is.
 pub fn number(word: &str) -> Option<usize>
-    ensures { (n : ℕ) → n < 2 ^ 64 → word.now ≡ decimal n → result ≡ Some n }
+    ensures { Finds (Numeral word.now) result }
 {
+    if word.starts_with('+') || (word.starts_with('0') && word.len() > 1) {
+        return None;
+    }
     word.parse().ok()
 }
 
-// By functions of its own: FromStr cannot stand here for a type of another crate.
+// A function of its own: FromStr cannot stand here for a type of another crate.
+/// The call that a line is.
+pub fn read_call(line: &str) -> Option<Call>
+    ensures { Finds (CallLine line.now) result }
+{
+    if line == "pick" {
+        return Some(Call::Pick);
+    }
+    let (name, numbers) = line.split_once(' ')?;
+    match numbers.split_once(' ') {
+        Some((mv, place)) => call_in(name, mv, place.strip_prefix("in ")?),
+        None => call_with(name, numbers),
+    }
+}
+
 /// A call that names a move or a state.
-pub fn call_with(name: &str, word: &str) -> Option<Call>
-    ensures { (n : ℕ) → n < 2 ^ 64 → word.now ≡ decimal n → Numbered name.now n result }
+fn call_with(name: &str, word: &str) -> Option<Call>
+    ensures { Finds (Numbered name.now word.now) result }
 {
     let n = number(word)?;
     match name {
@@ -30,8 +47,8 @@ pub fn call_with(name: &str, word: &str) -> Option<Call>
 }
 
 /// A call that names a move in a state.
-pub fn call_in(name: &str, mv: &str, state: &str) -> Option<Call>
-    ensures { (m s : ℕ) → m < 2 ^ 64 → s < 2 ^ 64 → mv.now ≡ decimal m → state.now ≡ decimal s → Placed name.now m s result }
+fn call_in(name: &str, mv: &str, state: &str) -> Option<Call>
+    ensures { Finds (Placed name.now mv.now state.now) result }
 {
     let mv = number(mv)?;
     let state = number(state)?;

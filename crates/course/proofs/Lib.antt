@@ -4,6 +4,7 @@ mod Calls
 mod Running
 mod SafeCourses
 mod Silences
+mod Stretches
 mod JamsTold
 mod Legals
 mod Losing

@@ -9,7 +9,7 @@ either run true m n h = omega arith
 either run false m n h = omega arith
 
 -- the silence before is part of it
-low : (run : ℕ) (cs : List Check) → run ≤ silence_after run cs
+pub low : (run : ℕ) (cs : List Check) → run ≤ silence_after run cs
 unfolding silence_after
 low run [] = omega arith
 low run (c ∷ cs) = either run (eqb c.mv 0) (silence_after (suc run) cs) (silence_after 0 cs) (low (suc run) cs)

@@ -1,6 +1,6 @@
 -- What a course of checks came to.
-use Rattle.std.specs.Prelude.{◌≡◌, ℕ, suc, max, Bool, true, false, cond, ◌||◌, ◌↔◌, List, [], ◌∷◌, Some, None, Option, nat_eq, nat_le}
-use Rattle.std.specs.List.{list_any, count_by}
+use Rattle.std.specs.Prelude.{◌≡◌, ℕ, suc, ◌+◌, ◌≤◌, max, Bool, true, false, cond, ◌||◌, ◌↔◌, List, [], ◌∷◌, length, take, drop, Some, None, Option, nat_eq, nat_le}
+use Rattle.std.specs.List.{list_all, list_any, count_by}
 use Rattle.traffic.specs.Meaning.{Meaning}
 use Rattle.traffic.specs.Answered.{within_limits, due_of}
 use Rattle.game.specs.Plays.{Play, NoJamMet}
@@ -18,6 +18,21 @@ silence_after run (c ∷ cs) = cond (nat_eq c.mv 0) (silence_after (suc run) cs)
 
 abbrev pub longest_silence : List Check → ℕ
 longest_silence cs = silence_after 0 cs
+
+-- no loop sent in these checks
+abbrev pub silent : List Check → Bool
+silent cs = list_all (λ (c : Check). nat_eq c.mv 0) cs
+
+-- so many checks on end, behind these first ones, in which no loop sent
+pub record Silence (n : ℕ) (cs : List Check) : Type 0 where
+  pub first : ℕ
+  pub fits : first + n ≤ length cs
+  pub stays : silent (take n (drop first cs)) ≡ true
+
+-- there is a silence of so many checks, and none of more
+pub record LongestSilence (n : ℕ) (cs : List Check) : Type 0 where
+  pub there : Silence n cs
+  pub longest : (k : ℕ) → Silence k cs → k ≤ n
 
 -- a state is a jam by what is told of the loops due in it; one of which nothing is told counts as one
 abbrev pub jam_told : Option ℕ → Bool

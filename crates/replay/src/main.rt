@@ -8,27 +8,11 @@
 #![tactic(auto)]
 
 use anyhow::anyhow;
-use calls::{call_in, call_with, number};
-use keeper::service::{Call, Exchange, Keeper};
+use calls::{number, read_call};
+use keeper::service::{Exchange, Keeper};
 use keeper::serving::serve;
 use site::site::Site;
 use std::{env, fs, io};
-
-fn read_call(line: &str) -> Option<Call> {
-    let mut words = line.split(' ');
-    match (
-        words.next(),
-        words.next(),
-        words.next(),
-        words.next(),
-        words.next(),
-    ) {
-        (Some("pick"), None, None, None, None) => Some(Call::Pick),
-        (Some(name), Some(word), None, None, None) => call_with(name, word),
-        (Some(name), Some(mv), Some("in"), Some(state), None) => call_in(name, mv, state),
-        _ => None,
-    }
-}
 
 /// The calls of a text. A line that is none is told and left out.
 fn read_calls(rt: &HostRuntime, text: &str) -> anyhow::Result<Vec<Exchange>> {

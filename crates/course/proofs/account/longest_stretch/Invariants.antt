@@ -1,6 +1,6 @@
 use Rattle.std.proofs.Common.{◌≡◌, ◌≤◌, max, drop}
 use Rattle.course.specs.Account.{longest_silence, silence_after}
-use Rattle.course.proofs.account.longest_silence.Given as goal
+use Rattle.course.proofs.account.longest_stretch.Given as goal
 
 -- the longest so far, and what is left from here, come to the longest of all
 abbrev pub invariant-loop-check : goal.invariant-loop-check
