@@ -187,14 +187,18 @@ def joint_states(loops):
     return product
 
 
+def refused_line(number, loop, offset):
+    return f"refused {number} loop {loop} at {offset}"
+
+
 def refusal(data: bytes) -> str | None:
     """The line that says why a file is refused, or None if it is accepted."""
     try:
         joint = joint_states(read(data))
     except Fault as fault:
-        return f"refused {fault.number} loop {fault.loop} at {fault.offset}"
+        return refused_line(fault.number, fault.loop, fault.offset)
     if joint > MOST_STATES:
-        return "refused 9 loop 0 at 0"
+        return refused_line(9, 0, 0)
     return None
 
 
