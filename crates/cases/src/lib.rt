@@ -1,5 +1,5 @@
-//! What a table of cases is written in, bytes in hex, marks in runs and lines in one, and what it is held to: a map, and a
-//! buffer.
+//! What a table of cases is written in, bytes in hex, marks in runs and lines in one, and how maps and buffers are compared
+//! with it.
 #![tactic(auto)]
 
 pub mod buffer;

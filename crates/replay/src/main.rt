@@ -3,8 +3,9 @@
 //! Three arguments stand for one replay: a site file, the start, and a text file of calls. More such groups may follow.
 //!
 //! A line of a text file is a call: `permits M`, `pick`, `grant M`, `report S`, `permits M in S` or `spoiler M in S`, with
-//! a move M and a state S. Empty lines, and lines that begin with `#`, are skipped. A line that is no call, a start that is
-//! no number and a file that is no site file are told, and end nothing.
+//! a move M and a state S. A number, the start too, is written in digits alone, with no zero before them. Empty lines, and
+//! lines that begin with `#`, are skipped. A line that is no call, a start that is no number and a file that is no site
+//! file are told, and end nothing.
 #![tactic(auto)]
 
 use anyhow::anyhow;
