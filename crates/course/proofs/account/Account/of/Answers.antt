@@ -6,4 +6,4 @@ pub returns-clause-longest : goal.returns-clause-longest
 returns-clause-longest g c = rw c.longest_silence.ensures (is_longest c.args.checks.now)
 
 pub returns-clause-tells : goal.returns-clause-tells
-returns-clause-tells g c = tells _ (g.met.T.Traffic.lawful c.args.traffic.now) _ _ _ c.met_jam.ensures
+returns-clause-tells g c = tells _ (g.met.T.Traffic.lawful c.args.traffic.now) c.args.start c.args.checks.now c.met_jam.result c.met_jam.ensures
