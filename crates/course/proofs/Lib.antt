@@ -3,9 +3,12 @@ mod Slotting
 mod Calls
 mod Running
 mod SafeCourses
+mod LostStarts
 mod Silences
-mod Stretches
+mod AllSilences
 mod JamsTold
+mod SendsTold
+mod SendsLines
 mod Legals
 mod Losing
 mod IntoJam

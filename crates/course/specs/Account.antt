@@ -1,10 +1,12 @@
 -- What a course of checks came to.
-use Rattle.std.specs.Prelude.{◌≡◌, ℕ, suc, ◌+◌, ◌≤◌, max, Bool, true, false, cond, ◌||◌, ◌↔◌, List, [], ◌∷◌, length, take, drop, Some, None, Option, nat_eq, nat_le}
-use Rattle.std.specs.List.{list_all, list_any, count_by}
+use Rattle.std.specs.Prelude.{◌≡◌, ℕ, suc, ◌+◌, ◌≤◌, max, Bool, true, false, cond, ◌||◌, ◌↔◌, List, [], ◌∷◌, length, take, drop, Some, None, Option, nat_eq, nat_le, map}
+use Rattle.std.specs.List.{list_all, list_any, count_by, range_with_len}
 use Rattle.traffic.specs.Meaning.{Meaning}
 use Rattle.traffic.specs.Answered.{within_limits, due_of}
 use Rattle.game.specs.Plays.{Play, NoJamMet}
 use Rattle.course.specs.declared.check.Check.{Check}
+use Rattle.course.specs.declared.account.Sends.{Sends}
+use Rattle.course.specs.declared.account.Account.{Account}
 use Rattle.course.specs.Courses.{course_of}
 
 -- how often the loop of this number sent
@@ -16,8 +18,8 @@ unfoldable pub silence_after : ℕ → List Check → ℕ
 silence_after run [] = run
 silence_after run (c ∷ cs) = cond (nat_eq c.mv 0) (silence_after (suc run) cs) (max run (silence_after 0 cs))
 
-abbrev pub longest_silence : List Check → ℕ
-longest_silence cs = silence_after 0 cs
+abbrev pub longest_silence_in : List Check → ℕ
+longest_silence_in cs = silence_after 0 cs
 
 -- no loop sent in these checks
 abbrev pub silent : List Check → Bool
@@ -47,3 +49,24 @@ meets_jam M start cs = jam_told (due_of M start) || list_any (λ (c : Check). ja
 abbrev pub TellsJam : Meaning → ℕ → List Check → Bool → Type 0
 TellsJam M start cs met =
     within_limits M ≡ true → Play M (course_of start cs) → (met ≡ false) ↔ NoJamMet M (course_of start cs)
+
+-- the loops of a traffic; over the limits none is told
+abbrev pub loops_told : Meaning → ℕ
+loops_told M = cond (within_limits M) M.loops 0
+
+-- how often a loop sent, where there are so many; of one that there is not nothing is told
+abbrev pub sends_told : ℕ → List Check → ℕ → Option ℕ
+sends_told loops cs place = cond (nat_le place loops) (Some (sends place cs)) None
+
+-- of each loop that a traffic may have
+abbrev pub all_sends : Meaning → List Check → Sends
+all_sends M cs = record { counts = map (sends_told (loops_told M) cs) (range_with_len 1 8) }
+
+-- what a course from a start came to
+abbrev pub account_of : Meaning → ℕ → List Check → Account
+account_of M start cs = record {
+  slots = length cs;
+  sends = all_sends M cs;
+  longest_silence = longest_silence_in cs;
+  met_jam = meets_jam M start cs;
+}

@@ -3,3 +3,4 @@ pub mod Courses
 pub mod Slots
 pub mod Account
 pub mod Lost
+pub mod Words

@@ -1,11 +1,15 @@
 -- The play that is lost where there is no schedule.
-use Rattle.std.specs.Prelude.{◌≡◌, ℕ, zero, suc, ◌≤◌, true, false, List, [], ◌∷◌, ◌++◌, length, take, drop, Some, None, Ok, Option, Result}
+use Rattle.std.specs.Prelude.{◌≡◌, ℕ, zero, suc, ◌≤◌, true, false, List, [], ◌∷◌, ◌++◌, length, take, drop, Some, None, Ok, Err, Option, Result}
 use Rattle.std.specs.Option.{option_map}
 use Rattle.traffic.specs.Searches.{least, or_zero}
 use Rattle.traffic.specs.Meaning.{Meaning, legal, jam}
 use Rattle.game.specs.declared.map_fault.MapFault.{MapFault}
+use Rattle.game.specs.declared.solution.Tally.{Tally}
+use Rattle.game.specs.declared.solution.Refusal.{Refusal}
+use Rattle.game.specs.declared.solution.Refusal.TheVariants.{NoSchedule}
 use Rattle.game.specs.Game.{mark}
 use Rattle.game.specs.Choice.{spoiler_by}
+use Rattle.game.specs.Maps.{turned_away, Filled}
 use Rattle.game.specs.Plays.{Past, begin, after, last, Play}
 use Rattle.course.specs.declared.check.Check.{Check}
 use Rattle.course.specs.Plants.{reply_by}
@@ -48,3 +52,13 @@ pub record LostPlay (M : Meaning) (start count room : ℕ) (cs : List Check) : T
 
 abbrev pub PlaysIntoJam : Meaning → ℕ → ℕ → List Check → Result ℕ MapFault → Type 0
 PlaysIntoJam M start room cs r = (n count : ℕ) → r ≡ Ok n → mark M start ≡ suc count → LostPlay M start count room (take n cs)
+
+-- the lost play can be asked for on this map, which is filled, and the count is the mark of the start less one
+pub record LostFrom (M : Meaning) (start : ℕ) (map : List ℕ) (k : ℕ) : Type 0 where
+  pub admitted : turned_away M (length map) start ≡ None
+  pub full : Filled M map
+  pub counted : mark M start ≡ suc k
+
+-- wherever there is no schedule
+abbrev pub TellsLost : {A : Type 0} → Meaning → ℕ → List ℕ → Result A Refusal → Type 0
+TellsLost M start map r = (k : ℕ) (t : Tally) → r ≡ Err (NoSchedule k t) → LostFrom M start map k

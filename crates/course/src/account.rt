@@ -1,14 +1,32 @@
 //! What a course of checks came to.
-ghost use Rattle.std.specs.Prelude.{◌≡◌, ◌<◌, suc, cond, nat_eq};
+ghost use Rattle.std.specs.Prelude.{◌≡◌, ◌<◌, suc, cond, nat_eq, length};
 ghost use Rattle.std.specs.List.{list_any};
-ghost use Rattle.course.specs.Account.{sends, longest_silence, LongestSilence, jam_told, meets_jam, TellsJam};
+ghost use Rattle.course.specs.Account.{sends, longest_silence_in, LongestSilence, jam_told, meets_jam, TellsJam, loops_told, sends_told, all_sends, account_of};
 ghost use Rattle.traffic.specs.Answered.{due_of};
 
 use crate::check::Check;
-use traffic::Traffic;
+use traffic::{MOST_LOOPS, Traffic};
 
-/// How often the loop of this number sent.
-pub fn sends_of(checks: &[Check], place: usize) -> usize
+/// How often each loop sent, loop 1 first. Nothing is told of a loop that the traffic does not have, and over the limits
+/// of none.
+#[derive(Clone, Copy, PartialEq, Eq, Debug)]
+pub struct Sends {
+    pub counts: [Option<usize>; MOST_LOOPS],
+}
+
+/// What a course came to.
+#[derive(Clone, Copy, PartialEq, Eq, Debug)]
+pub struct Account {
+    pub slots: usize,
+    pub sends: Sends,
+    /// For how many checks on end no loop sent, at the most.
+    pub longest_silence: usize,
+    /// Whether the start is a jam, or a state that was come to.
+    pub met_jam: bool,
+}
+
+// How often the loop of this number sent.
+fn sends_of(checks: &[Check], place: usize) -> usize
     ensures { result ≡ sends place checks.now }
 {
     checks.iter().filter(|check| check.mv == place).count()
@@ -22,9 +40,8 @@ fn silence_with(silence: usize, check: Check) -> usize
     if check.mv == 0 { silence + 1 } else { 0 }
 }
 
-// Apart from longest_silence, so that the theorem is proved over one exit.
-fn longest_stretch(checks: &[Check]) -> usize
-    ensures { result ≡ longest_silence checks.now }
+fn longest_silence(checks: &[Check]) -> usize
+    ensures { result ≡ longest_silence_in checks.now }
 {
     let mut silence = 0;
     let mut longest = 0;
@@ -33,14 +50,6 @@ fn longest_stretch(checks: &[Check]) -> usize
         longest = longest.max(silence);
     }
     longest
-}
-
-/// For how many checks on end no loop sent, at the most.
-pub fn longest_silence(checks: &[Check]) -> usize
-    ensures answer { result ≡ longest_silence checks.now }
-    ensures longest { LongestSilence result checks.now }
-{
-    longest_stretch(checks)
 }
 
 // Whether two or more loops are due in a state. One that the traffic does not have counts as a jam.
@@ -57,17 +66,53 @@ fn comes_to_jam<T: Traffic>(traffic: &T, checks: &[Check]) -> bool
     checks.iter().any(|check| is_jam(traffic, check.next))
 }
 
-// Apart from met_jam, so that the theorem is proved over one exit.
-fn meets_jam<T: Traffic>(traffic: &T, start: usize, checks: &[Check]) -> bool
+// Whether the start or a next state is a jam.
+fn met_jam<T: Traffic>(traffic: &T, start: usize, checks: &[Check]) -> bool
     ensures { result ≡ meets_jam (T.meaning traffic.now) start checks.now }
 {
     is_jam(traffic, start) || comes_to_jam(traffic, checks)
 }
 
-/// Whether a course from a start met a jam, in the start or in a next state.
-pub fn met_jam<T: Traffic>(traffic: &T, start: usize, checks: &[Check]) -> bool
-    ensures answer { result ≡ meets_jam (T.meaning traffic.now) start checks.now }
-    ensures tells { TellsJam (T.meaning traffic.now) start checks.now result }
+// The loops of a traffic; over the limits none is told.
+fn loops_of<T: Traffic>(traffic: &T) -> usize
+    ensures { result ≡ loops_told (T.meaning traffic.now) }
 {
-    meets_jam(traffic, start, checks)
+    traffic.size().map_or(0, |size| size.loops)
+}
+
+// How often the loop of this number sent, if it is one of so many.
+fn told_of(checks: &[Check], loops: usize, place: usize) -> Option<usize>
+    ensures { result ≡ sends_told loops checks.now place }
+{
+    (place <= loops).then(|| sends_of(checks, place))
+}
+
+impl Sends {
+    /// How often each loop sent in these checks.
+    pub fn of<T: Traffic>(traffic: &T, checks: &[Check]) -> Sends
+        ensures { result ≡ all_sends (T.meaning traffic.now) checks.now }
+    {
+        let loops = loops_of(traffic);
+        let mut counts = [None; MOST_LOOPS];
+        for place in 1..=MOST_LOOPS {
+            counts[place - 1] = told_of(checks, loops, place);
+        }
+        Sends { counts }
+    }
+}
+
+impl Account {
+    /// What these checks from a start came to.
+    pub fn of<T: Traffic>(traffic: &T, start: usize, checks: &[Check]) -> Account
+        ensures value { result ≡ account_of (T.meaning traffic.now) start checks.now }
+        ensures longest { LongestSilence result.longest_silence checks.now }
+        ensures tells { TellsJam (T.meaning traffic.now) start checks.now result.met_jam }
+    {
+        Account {
+            slots: checks.len(),
+            sends: Sends::of(traffic, checks),
+            longest_silence: longest_silence(checks),
+            met_jam: met_jam(traffic, start, checks),
+        }
+    }
 }

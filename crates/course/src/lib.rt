@@ -10,3 +10,4 @@ pub mod check;
 pub mod lost;
 mod plants;
 pub mod slots;
+pub mod words;

@@ -3,6 +3,7 @@ ghost use Rattle.std.specs.Prelude.{◌≡◌, length};
 ghost use Rattle.game.specs.Answers.{solved, map_after};
 ghost use Rattle.keeper.specs.Arming.{armed};
 ghost use Rattle.course.specs.Slots.{SafeOn, slot, slots, state_after, record_after, RunsSlots};
+ghost use Rattle.course.specs.Lost.{TellsLost};
 
 use crate::check::Check;
 use crate::plants::reply;
@@ -67,7 +68,8 @@ fn arm_and_run<T: Traffic>(
 }
 
 /// Arms a keeper at the start, and runs as many slots with it as the record has places; each is noted there. The keeper is
-/// ready again after the last. Where there is no schedule no keeper is armed, and the record stays as it was.
+/// ready again after the last. Where there is no schedule no keeper is armed, and the record stays as it was; the map is
+/// filled, so that `lost_play` on it ends in a jam.
 pub fn run_slots<T: Traffic>(
     traffic: &T,
     start: usize,
@@ -78,6 +80,7 @@ pub fn run_slots<T: Traffic>(
     ensures noted { checks.new ≡ record_after (T.meaning traffic.now) start map.old checks.old }
     ensures after { map.new ≡ map_after (T.meaning traffic.now) start map.old }
     ensures course { RunsSlots (T.meaning traffic.now) start checks.new result }
+    ensures lost { TellsLost (T.meaning traffic.now) start map.new result }
 {
     arm_and_run(traffic, start, map, checks)
 }

@@ -66,6 +66,7 @@ fn print_with(rt: &HostRuntime, numbers: Numbers) -> io::Result<()> {
     print_all(rt, &values::verdicts(numbers))?;
     print_all(rt, &values::calls(numbers))?;
     print_all(rt, &values::answers(numbers))?;
+    print_all(rt, &values::accounts(numbers))?;
     print_all(rt, &[values::difference(numbers)])
 }
 

@@ -1,6 +1,7 @@
 //! The cases of each enum.
 use crate::numbers::Numbers;
 use cases::difference::Difference;
+use course::account::{Account, Sends};
 use game::map_fault::MapFault;
 use game::solution::{Refusal, Tally};
 use keeper::service::{Answer, Call};
@@ -131,4 +132,15 @@ pub fn difference(numbers: Numbers) -> Difference {
         found: numbers.mark,
         expected: numbers.mark,
     }
+}
+
+/// Of a course without a jam by a traffic without a loop, and of one into a jam by a traffic with all eight.
+pub fn accounts(numbers: Numbers) -> [Account; 2] {
+    let count = numbers.count;
+    [(None, false), (Some(count), true)].map(|(sent, met_jam)| Account {
+        slots: count,
+        sends: Sends { counts: [sent; 8] },
+        longest_silence: count,
+        met_jam,
+    })
 }

@@ -2,7 +2,7 @@
 use Rattle.std.proofs.Common.{◌≡◌, ℕ, zero, suc, ◌+◌, ◌≤◌, max, eqb, true, List, [], ◌∷◌, length, take, drop, refl, inl, inr, arith}
 use Rattle.std.proofs.lemmas.Bool.{cases_Bool, cases_lt, and_parts, and_from, eqb-true, eq-eqb}
 use Rattle.course.specs.declared.check.Check.{Check}
-use Rattle.course.specs.Account.{silence_after, longest_silence, Silence, LongestSilence, silent}
+use Rattle.course.specs.Account.{silence_after, longest_silence_in, Silence, LongestSilence, silent}
 use Rattle.course.proofs.Silences.{low}
 
 -- no loop sends in the first checks
@@ -43,11 +43,11 @@ stands run (c ∷ cs) =
       | inr z ↦ rw z (after_loud run _ c cs (stands 0 cs))
     ]
 
-there : (cs : List Check) → Silence (longest_silence cs) cs
+there : (cs : List Check) → Silence (longest_silence_in cs) cs
 there cs = go (stands 0 cs)
   where
-    go : Stands 0 (longest_silence cs) cs → Silence (longest_silence cs) cs
-    go (goes_on k f a e) = let is : longest_silence cs ≡ k = omega (arith, e) in record { first = 0; fits = omega (arith, f, e); stays = rw is a }
+    go : Stands 0 (longest_silence_in cs) cs → Silence (longest_silence_in cs) cs
+    go (goes_on k f a e) = let is : longest_silence_in cs ≡ k = omega (arith, e) in record { first = 0; fits = omega (arith, f, e); stays = rw is a }
     go (is_here s) = s
 
 from_here : (run : ℕ) (cs : List Check) (n : ℕ) → n ≤ length cs → Quiet n cs → run + n ≤ silence_after run cs
@@ -66,5 +66,5 @@ behind run (c ∷ cs) (suc i) n f a =
       | inr z ↦ rw z (omega (arith, behind 0 cs i n (omega (arith, f)) a))
     ]
 
-pub is_longest : (cs : List Check) → LongestSilence (longest_silence cs) cs
+pub is_longest : (cs : List Check) → LongestSilence (longest_silence_in cs) cs
 is_longest cs = record { there = there cs; longest = λ k s. behind 0 cs s.first k s.fits s.stays }
