@@ -1,4 +1,4 @@
-"""How a keeper and the refusals of a synthesis are printed."""
+"""How a keeper, the refusals of a synthesis and those of a slot are printed."""
 
 
 def refused(number):

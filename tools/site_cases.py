@@ -1,11 +1,10 @@
 """Test cases: what the product is expected to do with a site file, and makers of random files.
 
-`tools/make-cases` prints a table of them, and `tools/compare` makes fresh ones.
+`tools/make-cases` writes a table of them, and `tools/compare` makes fresh ones.
 """
 
 from collections import Counter
 from dataclasses import dataclass
-from itertools import groupby
 
 from site_file import ContractLoop, RegionLoop, fields, joint_states, one_region, read, refusal, write
 from site_game import answer_lines, marks
@@ -34,22 +33,14 @@ FAULTY_FIELDS = {
 # What is expected
 
 
-def in_runs(found):
-    """Marks in words: equal neighbours as MARK*COUNT, and a single one as MARK."""
-    runs = [(mark, len(list(run))) for mark, run in groupby(found)]
-    return " ".join(str(mark) if count == 1 else f"{mark}*{count}" for mark, count in runs)
-
-
 @dataclass
 class Case:
     data: bytes
     lines: list[str]  # of the verdict
     found: list[int] | None  # the mark of each state, where the file is accepted
 
-    def row(self):
-        """The case in a table: the file in hex, the lines of its verdict, and all marks."""
-        row = f"{self.data.hex().upper()}: {', '.join(self.lines)}"
-        return row if self.found is None else f"{row}; marks {in_runs(self.found)}"
+    def hexed(self):
+        return self.data.hex().upper()
 
 
 def solved(data: bytes) -> Case:
