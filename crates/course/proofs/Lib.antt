@@ -12,3 +12,4 @@ mod SendsLines
 mod Legals
 mod Losing
 mod IntoJam
+mod RecordedSlots

@@ -55,7 +55,7 @@ module _ (M : Meaning) (law : Lawful M) where
       record { plays = more.plays; no_jam = more.no_jam; made = (slot_made p s e h z, more.made); ends = more.ends }
 
   -- the slots from a safe state are a safe course
-  safe_course : (n start : ℕ) → start < M.states → mark M start ≡ 0 → (t : Tally) → SafeCourse M start (slots M n start) (record { keeper = record { state = state_after M n start }; tally = t })
+  pub safe_course : (n start : ℕ) → start < M.states → mark M start ≡ 0 → (t : Tally) → SafeCourse M start (slots M n start) (record { keeper = record { state = state_after M n start }; tally = t })
   safe_course n start h z t =
       let g = grows n (begin start) start refl h z h (lasts_no_jam M start (unmarked_lasts M start h z)) in
       record { plays = g.plays; no_jam = g.no_jam; made = g.made; ends = g.ends }

@@ -4,3 +4,4 @@ pub mod Slots
 pub mod Account
 pub mod Lost
 pub mod Words
+pub mod Recorded

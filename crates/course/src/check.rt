@@ -6,3 +6,10 @@ pub struct Check {
     pub mv: usize,
     pub next: usize,
 }
+
+/// Stands in a record's place until its check is noted.
+pub const UNUSED: Check = Check {
+    state: 0,
+    mv: 0,
+    next: 0,
+};

@@ -4,14 +4,63 @@ ghost use Rattle.game.specs.Answers.{solved, map_after};
 ghost use Rattle.keeper.specs.Arming.{armed};
 ghost use Rattle.course.specs.Slots.{SafeOn, slot, slots, state_after, record_after, RunsSlots};
 ghost use Rattle.course.specs.Lost.{TellsLost};
+ghost use Rattle.std.specs.Option.{option_map};
+ghost use Rattle.course.specs.Recorded.{record_told, RecordsSlots, RecordsCourse, RecordsLost};
+ghost use Rattle.course.specs.declared.slots.RecordFault.TheVariants.{Refused, Memory};
 
-use crate::check::Check;
+use crate::check::{Check, UNUSED};
 use crate::plants::reply;
 use game::board::Board;
 use game::solution::Refusal;
 use keeper::arming::{Armed, synthesise};
 use keeper::slot::Ready;
+use std::alloc::{AllocError, Global};
 use traffic::Traffic;
+
+/// The keeper after slots that were run, and the record of them.
+#[derive(Drop)]
+pub struct Recorded {
+    pub armed: Armed,
+    pub checks: Vec<Check>,
+}
+
+/// Why no record of slots is made.
+#[derive(Clone, Copy, PartialEq, Eq, Debug)]
+pub enum RecordFault {
+    /// No keeper is armed.
+    Refused(Refusal),
+    /// There is no memory for the record.
+    Memory,
+}
+
+impl RecordFault {
+    /// The refusal's number; absent for want of memory, which has none.
+    pub fn number(self) -> Option<u8>
+        ensures { result ≡ option_map (λ t. t.number) (record_told self) }
+    {
+        let RecordFault::Refused(cause) = self else {
+            return None;
+        };
+        Some(cause.number())
+    }
+}
+
+// By hand, since clauses name the fault that a `?` makes, and a derived From says nothing of it.
+impl From<Refusal> for RecordFault {
+    ghost from_gives = { λ e r. r ≡ Refused e };
+
+    fn from(refusal: Refusal) -> RecordFault {
+        RecordFault::Refused(refusal)
+    }
+}
+
+impl From<AllocError> for RecordFault {
+    ghost from_gives = { λ _ r. r ≡ Memory };
+
+    fn from(_: AllocError) -> RecordFault {
+        RecordFault::Memory
+    }
+}
 
 // One slot, of a keeper that is ready in a safe state: there is a pick there and it is granted, and there is a reply and it
 // is taken.
@@ -83,4 +132,43 @@ pub fn run_slots<T: Traffic>(
     ensures lost { TellsLost (T.meaning traffic.now) start map.new result }
 {
     arm_and_run(traffic, start, map, checks)
+}
+
+// The answer and the map afterwards. Apart from record_slots, so that the theorems are proved over one exit.
+fn arm_and_record<T: Traffic>(
+    heap: Global,
+    traffic: &T,
+    start: usize,
+    map: &mut [u16],
+    slots: usize,
+) -> Result<Recorded, RecordFault>
+    ensures answer { RecordsSlots (T.meaning traffic.now) start slots (solved (T.meaning traffic.now) start map.old) result }
+    ensures after { map.new ≡ map_after (T.meaning traffic.now) start map.old }
+{
+    let armed = synthesise(traffic, start, map)?;
+    let mut checks = vec![in heap; UNUSED; slots]?;
+    let keeper = run_all(Board { traffic, map }, armed.keeper, &mut checks);
+    let armed = Armed {
+        keeper,
+        tally: armed.tally,
+    };
+    Ok(Recorded { armed, checks })
+}
+
+/// Arms a keeper at the start, runs so many slots with it, and hands out the record of them: what `run_slots` notes. Memory is
+/// wanted only once a keeper is armed, for the record. Where there is no schedule the map is filled, so that `lost_play` on it
+/// ends in a jam.
+pub fn record_slots<T: Traffic>(
+    heap: Global,
+    traffic: &T,
+    start: usize,
+    map: &mut [u16],
+    slots: usize,
+) -> Result<Recorded, RecordFault>
+    ensures answer { RecordsSlots (T.meaning traffic.now) start slots (solved (T.meaning traffic.now) start map.old) result }
+    ensures after { map.new ≡ map_after (T.meaning traffic.now) start map.old }
+    ensures course { RecordsCourse (T.meaning traffic.now) start result }
+    ensures lost { RecordsLost (T.meaning traffic.now) start map.new result }
+{
+    arm_and_record(heap, traffic, start, map, slots)
 }

@@ -1,22 +1,10 @@
 -- What the pick and the spoiler find, by any marking.
-use Rattle.std.proofs.Common.{◌≡◌, length, get_or, filter, cond, Ordering, Less, Equal, Greater, ℕ, zero, suc, ◌+◌, ◌<◌, ◌≤◌, Bool, true, false, not, ◌&&◌, ◌||◌, ltb, ◌⊎◌, List, [], ◌∷◌, Some, None, Option, sym, refl, ap, ◌∙◌, subst, ap₂, inl, inr, add-one, arith, MatchOption}
-use denote.Param.Members.{Mut}
-use denote.Ref.{Bor}
-use Rattle.std.specs.Fn.{CalledAt, TakesAt}
-use Rattle.std.specs.Ordering.{MatchOrdering, nat_cmp, min_by_ordering}
-use Rattle.std.specs.List.{FoldsTo, All}
-use Rattle.std.specs.Iterator.{KeyTurn, PicksMinByKey, CallableInMinByKey}
-use Rattle.std.proofs.lemmas.Cmp.{ranked}
-use Rattle.std.proofs.lemmas.List.{map-id}
-use Rattle.std.proofs.lemmas.List.Elements.{All-nil, All-cons}
-use Rattle.std.proofs.lemmas.Iterator.{YieldsList, items_from_drains}
-use Rattle.std.proofs.lemmas.Iterator.Consumers.{YieldsList-turn}
-use Rattle.std.proofs.lemmas.Fn.{serves_by}
-use Rattle.std.proofs.lemmas.Bool.{cond-true, cond-false, cases_Bool, cases_lt, cases_eq, both_ways, and_parts, and_from, or_cases, or_left, or_right, not-true, not_from_false, false_from_ne_true, ltb-true, lt-ltb, ltb-false, leb-true, le-leb, le-ltb, eqb-true, eq-eqb}
+use Rattle.std.proofs.Common.{◌≡◌, ℕ, zero, suc, ◌+◌, ◌<◌, ◌≤◌, Bool, true, false, not, ◌&&◌, ◌||◌, ltb, ◌⊎◌, List, [], ◌∷◌, Some, None, Option, sym, refl, ap, ◌∙◌, subst, ap₂, inl, inr, add-one, arith, MatchOption, IfSome}
+use Rattle.std.proofs.lemmas.Bool.{cases_Bool, cases_lt, cases_eq, both_ways, and_parts, and_from, or_cases, or_left, or_right, not-true, not_from_false, false_from_ne_true, ltb-true, lt-ltb, ltb-false, leb-true, le-leb, eqb-true, eq-eqb}
 use Rattle.traffic.specs.Searches.{every_below, least}
 use Rattle.traffic.specs.Meaning.{Meaning, Lawful}
 use Rattle.traffic.specs.Answered.{within_limits}
-use Rattle.traffic.specs.NextStates.{next_states_from, next_states}
+use Rattle.traffic.specs.NextStates.{next_states_from}
 use Rattle.traffic.proofs.Asked.{next_none}
 use Rattle.traffic.proofs.Following.{nothing_left, first_left}
 use Rattle.traffic.specs.Found.{Least, every_decides, least_some, least_none, least_is, least_is_none}
@@ -66,10 +54,10 @@ module _ (M : Meaning) (marks : ℕ → ℕ) (s m : ℕ) where
   threat_parts t e = let p = and_parts _ _ e in (p.0, ltb-true _ _ p.1)
 
   -- what is no next state is no threat, nor is a state of mark 0
-  not_next : (t : ℕ) → M.leads s m t ≡ false → threat M marks s m t ≡ false
+  pub not_next : (t : ℕ) → M.leads s m t ≡ false → threat M marks s m t ≡ false
   not_next t e = false_from_ne_true _ (λ h. both_ways _ e (threat_parts t h).0)
 
-  unmarked : (t : ℕ) → marks t ≤ 0 → threat M marks s m t ≡ false
+  pub unmarked : (t : ℕ) → marks t ≤ 0 → threat M marks s m t ≡ false
   unmarked t z = false_from_ne_true _ (λ h. omega (arith, (threat_parts t h).1))
 
   -- t is a threat, and comes before the others below `from`
@@ -103,21 +91,21 @@ module _ (M : Meaning) (marks : ℕ → ℕ) (s m : ℕ) where
           elim (before u h e) [ inl b ↦ f.first u b e | inr q ↦ ap (comes_before marks w) q ∙ here (ap (threat M marks s m) (sym q) ∙ e) ];
     }
 
-    first_passed : (found : Option ℕ) → threat M marks s m t ≡ false → FoundFirst from found → FoundFirst (t + 1) found
+    pub first_passed : (found : Option ℕ) → threat M marks s m t ≡ false → FoundFirst from found → FoundFirst (t + 1) found
     first_passed None n f =
         λ u h.
         false_from_ne_true _
         (λ e. elim (before u h e) [ inl b ↦ both_ways _ (f u b) e | inr q ↦ both_ways _ n (ap (threat M marks s m) (sym q) ∙ e) ])
     first_passed (Some w) n f = stays w f (λ e. absurd (both_ways _ n e))
 
-    first_kept : (found : Option ℕ) → ahead marks t found ≡ false → FoundFirst from found → FoundFirst (t + 1) found
+    pub first_kept : (found : Option ℕ) → ahead marks t found ≡ false → FoundFirst from found → FoundFirst (t + 1) found
     first_kept None n f = absurd (both_ways _ n refl)
     first_kept (Some w) n f =
         let l = ltb-false _ _ n in
         stays w f
         (λ _. low_comes marks w t (elim (cases_lt (marks w) (marks t)) [ inl h ↦ inl h | inr h ↦ inr (omega arith, omega (arith, f.below)) ]))
 
-    first_replaced : (found : Option ℕ) → threat M marks s m t ≡ true → ahead marks t found ≡ true → FoundFirst from found → First (t + 1) t
+    pub first_replaced : (found : Option ℕ) → threat M marks s m t ≡ true → ahead marks t found ≡ true → FoundFirst from found → First (t + 1) t
     first_replaced found y a f =
         record {
           below = omega arith;
@@ -166,13 +154,49 @@ module _ (M : Meaning) (marks : ℕ → ℕ) (s m : ℕ) where
             ],
       )
 
+  -- of the next states those in `left` are still to come, and of the threats among the others `found` is the first
+  pub record Passing (left : List ℕ) (found : Option ℕ) : Type 0 where
+    pub from : ℕ
+    pub rest : left ≡ next_states_from M s m from
+    pub first : FoundFirst from found
+
+  -- what is found is a state of the traffic
+  pub passing_inside : Lawful M → (left : List ℕ) (found : Option ℕ) (n : ℕ) → M.states ≤ n → Passing left found → IfSome found (λ w. w < n)
+  passing_inside law left None n h k = tt
+  passing_inside law left (Some w) n h k =
+      let high = law.leads_within s m w (threat_parts w k.first.threatens).0 in omega (arith, high.1)
+
+  -- t comes next
+  module _ (t : ℕ) (left now : List ℕ) (found : Option ℕ) (k : Passing now found) (e : now ≡ t ∷ left) where
+    next : (within_limits M ≡ true) × Least (M.leads s m) k.from M.states t × (left ≡ next_states_from M s m (t + 1))
+    next = first_left M s m k.from t left (sym e ∙ k.rest)
+
+    between : (u : ℕ) → k.from ≤ u → u < t → threat M marks s m u ≡ false
+    between u a b = not_next u (next.1.before u a b)
+
+    after : (o : Option ℕ) → FoundFirst (t + 1) o → Passing left o
+    after o f = record { from = t + 1; rest = next.2; first = f }
+
+    pub passing_at : t < M.states
+    passing_at = next.1.high
+
+    pub passing_passed : marks t ≤ 0 → Passing left found
+    passing_passed z = after found (first_passed k.from t next.1.low between found (unmarked t z) k.first)
+
+    pub passing_kept : ahead marks t found ≡ false → Passing left found
+    passing_kept n = after found (first_kept k.from t next.1.low between found n k.first)
+
+    pub passing_replaced : 0 < marks t → ahead marks t found ≡ true → Passing left (Some t)
+    passing_replaced y a =
+        after (Some t) (first_replaced k.from t next.1.low between found (threat_is t next.1.passes y) a k.first)
+
   module _ (law : Lawful M) where
     -- what is found is the spoiler, if there is no threat from `from` on
     module _ (from : ℕ) (rest : (u : ℕ) → from ≤ u → u < M.states → threat M marks s m u ≡ false) where
       below_from : (u : ℕ) → u < M.states → threat M marks s m u ≡ true → u < from
       below_from u h e = elim (cases_lt u from) [ inl b ↦ b | inr a ↦ absurd (both_ways _ (rest u a h) e) ]
 
-      first_is_spoiler : (found : Option ℕ) → FoundFirst from found → found ≡ spoiler_by M marks s m
+      pub first_is_spoiler : (found : Option ℕ) → FoundFirst from found → found ≡ spoiler_by M marks s m
       unfolding spoiler_by
       first_is_spoiler None f =
           sym
@@ -195,38 +219,8 @@ module _ (M : Meaning) (marks : ℕ → ℕ) (s m : ℕ) where
                 (arith, comes_low marks u t (p.1 t high f.threatens), comes_low marks t u (f.first u (below_from u h p.0) p.0)));
           }))
 
-    -- of the next states those in `left` are still to come, and of the threats among the others `found` is the first
-    record Passing (left : List ℕ) (found : Option ℕ) : Type 0 where
-      pub from : ℕ
-      pub rest : left ≡ next_states_from M s m from
-      pub first : FoundFirst from found
-
-    passing_none : (left : List ℕ) → left ≡ next_states M s m → Passing left None
-    passing_none left e = record { from = 0; rest = e; first = first_none }
-
-    -- t comes next
-    module _ (t : ℕ) (left now : List ℕ) (found : Option ℕ) (k : Passing now found) (e : now ≡ t ∷ left) where
-      next : (within_limits M ≡ true) × Least (M.leads s m) k.from M.states t × (left ≡ next_states_from M s m (t + 1))
-      next = first_left M s m k.from t left (sym e ∙ k.rest)
-
-      between : (u : ℕ) → k.from ≤ u → u < t → threat M marks s m u ≡ false
-      between u a b = not_next u (next.1.before u a b)
-
-      after : (o : Option ℕ) → FoundFirst (t + 1) o → Passing left o
-      after o f = record { from = t + 1; rest = next.2; first = f }
-
-      passing_passed : marks t ≤ 0 → Passing left found
-      passing_passed z = after found (first_passed k.from t next.1.low between found (unmarked t z) k.first)
-
-      passing_kept : ahead marks t found ≡ false → Passing left found
-      passing_kept n = after found (first_kept k.from t next.1.low between found n k.first)
-
-      passing_replaced : 0 < marks t → ahead marks t found ≡ true → Passing left (Some t)
-      passing_replaced y a =
-          after (Some t) (first_replaced k.from t next.1.low between found (threat_is t next.1.passes y) a k.first)
-
     -- all next states are passed
-    passing_over : (left : List ℕ) (found : Option ℕ) → within_limits M ≡ true → Passing left found → left ≡ [] → found ≡ spoiler_by M marks s m
+    pub passing_over : (left : List ℕ) (found : Option ℕ) → within_limits M ≡ true → Passing left found → left ≡ [] → found ≡ spoiler_by M marks s m
     passing_over left found w k e =
         let none = next_none M s m k.from w (sym (nothing_left M s m k.from (sym e ∙ k.rest))) in
         first_is_spoiler k.from (λ u a b. not_next u (none u a b)) found k.first
@@ -267,74 +261,3 @@ module _ (M : Meaning) (f g : ℕ → ℕ) (same : (t : ℕ) → t < M.states �
   pub spoiler_same : spoiler_by M f s m ≡ spoiler_by M g s m
   unfolding spoiler_by
   spoiler_same = least_same (worst M f s m) (worst M g s m) M.states 0 (λ u h. worst_same u (omega arith))
-
--- of what was found and the numbers of a list, the one with the smallest mark, the first among equals
-abbrev pub best : (ℕ → ℕ) → Option ℕ → List ℕ → Option ℕ
-best marks found [] = found
-best marks found (t ∷ l) = best marks (cond (ahead marks t found) (Some t) found) l
-
--- what `min_by_key` answers, where the key is the mark
-module _ (marks : ℕ → ℕ) {F : Type 0} (g : Mut F (Bor ℕ × Unit {0}) ℕ) (f : F) (each : (x k : ℕ) (q : F) → CalledAt g f x k q → (q ≡ f) × (k ≡ marks x)) where
-  turn : (o : Ordering) (w x : ℕ) → MatchOrdering o (marks w < marks x) (marks w ≡ marks x) (marks x < marks w) → (min_by_ordering o (marks w) (marks x) ≡ marks (min_by_ordering o w x)) × (Some (min_by_ordering o w x) ≡ cond (ltb (marks x) (marks w)) (Some x) (Some w))
-  turn Less w x h = (refl, sym (cond-false _ _ _ (le-ltb (marks x) (marks w) (omega arith))))
-  turn Equal w x h = (refl, sym (cond-false _ _ _ (le-ltb (marks x) (marks w) (omega arith))))
-  turn Greater w x h = (refl, sym (cond-true _ _ _ (lt-ltb _ _ h)))
-
-  last_best : (xs : List ℕ) (f' : F) (k w : ℕ) → f' ≡ f → k ≡ marks w → (p : F × ℕ) (y : ℕ) → FoldsTo {P = (F × ℕ) × ℕ} (KeyTurn min_by_ordering min_by_ordering g nat_cmp) ((f', k), w) xs (p, y) → Some y ≡ best marks (Some w) xs
-  last_best [] f' k w e q p y h = ap (λ (z : (F × ℕ) × ℕ). Some z.1) (sym h)
-  last_best (x ∷ xs) f' k w e q p y (j, s, r) =
-      let c = each x s.0 j.0.0 (subst (λ h. CalledAt g h x s.0 j.0.0) e s.2) in
-      let n = turn s.1 w x (ranked (marks w) (marks x) s.1 (sym s.3 ∙ ap₂ nat_cmp q c.1)) in
-      last_best xs j.0.0 j.0.1 j.1 c.0 (s.4 ∙ ap₂ (min_by_ordering s.1) q c.1 ∙ n.0 ∙ ap marks (sym s.5)) p y r
-      ∙ ap (λ o. best marks o xs) (ap Some s.5 ∙ n.1)
-
-pub best_of : {S F : Type 0} {steps : S → Option ℕ → S → Type 0} {g : Mut F (Bor ℕ × Unit {0}) ℕ} {s : S} {f : F} {all : List ℕ} (marks : ℕ → ℕ) (r : Option ℕ) → PicksMinByKey steps g nat_cmp s f r → YieldsList steps (λ x. x) s all → ((x k : ℕ) (q : F) → CalledAt g f x k q → (q ≡ f) × (k ≡ marks x)) → r ≡ best marks None all
-best_of marks None h road each =
-    let e = items_from_drains [] (h.1.0, h.1.1, λ _. (h.0, h.1.2)) road in ap (best marks None) e
-best_of {g = g} {f = f} marks (Some y) (x, xs, k, f', p, d, call, folds) road each =
-    let e = items_from_drains (x ∷ xs) (d.1.0, d.1.1, λ _. (d.0, d.1.2)) road in
-    let c = each x k f' call in
-    last_best marks g f each xs f' k x c.0 c.1 p y folds ∙ ap (best marks None) (sym (map-id (x ∷ xs)) ∙ e)
-
--- what it asks of the key, at each number that may come
-pub serves_min : {S F : Type 0} {steps : S → Option ℕ → S → Type 0} {g : Mut F (Bor ℕ × Unit {0}) ℕ} {s : S} {f : F} {all : List ℕ} → YieldsList steps (λ x. x) s all → ((x k : ℕ) (q : F) → CalledAt g f x k q → q ≡ f) → ((x k : ℕ) → k < length all → x ≡ get_or all k x → TakesAt g f x) → CallableInMinByKey steps g nat_cmp s f
-serves_min {g = g} {f = f} road same takes = λ x t first.
-    let h = YieldsList-turn road [] _ refl (Some x) t x refl first in (
-      takes x 0 h.0 h.1,
-      λ k f' call.
-          serves_by _ (λ xs q. q.0.0 ≡ f) (λ xs q y v b r. same y r.0 v.0.0 (subst (λ z. CalledAt g z y r.0 v.0.0) b r.2)) _ _ t _ (same x k f' call)
-          (λ xs u q y v gave next b.
-          let p = YieldsList-turn road (x ∷ xs) u (t, first, gave) (Some y) v y refl next in
-          subst (λ z. TakesAt g z y) (sym b) (takes y (length (x ∷ xs)) p.0 p.1)),
-    )
-
-module _ (M : Meaning) (s m : ℕ) where
-  all_inside : (left : List ℕ) (from : ℕ) → left ≡ next_states_from M s m from → All (λ t. t < M.states) left
-  all_inside [] from e = All-nil (λ t. t < M.states)
-  all_inside (t ∷ left) from e = let f = first_left M s m from t left e in All-cons (λ t. t < M.states) t left f.1.high (all_inside left (t + 1) f.2)
-
-  pub next_inside : All (λ t. t < M.states) (next_states M s m)
-  next_inside = all_inside _ 0 refl
-
-module _ (M : Meaning) (marks : ℕ → ℕ) (s m : ℕ) (law : Lawful M) (w : within_limits M ≡ true) where
-  best_left : (left : List ℕ) (found : Option ℕ) → Passing M marks s m law left found → best marks found (filter (λ t. ltb 0 (marks t)) left) ≡ spoiler_by M marks s m
-  best_left [] found k = passing_over M marks s m law [] found w k refl
-  best_left (t ∷ left) found k =
-      elim (cases_Bool (ltb 0 (marks t))) [
-        | inl y ↦
-            ap (best marks found) (cond-true _ _ _ y)
-            ∙ elim (cases_Bool (ahead marks t found)) [
-              | inl a ↦
-                  ap (λ o. best marks o (filter (λ u. ltb 0 (marks u)) left)) (cond-true _ _ _ a)
-                  ∙ best_left left (Some t) (passing_replaced M marks s m law t left _ found k refl (ltb-true _ _ y) a)
-              | inr n ↦
-                  ap (λ o. best marks o (filter (λ u. ltb 0 (marks u)) left)) (cond-false _ _ _ n)
-                  ∙ best_left left found (passing_kept M marks s m law t left _ found k refl n)
-            ]
-        | inr n ↦
-            ap (best marks found) (cond-false _ _ _ n)
-            ∙ best_left left found (passing_passed M marks s m law t left _ found k refl (ltb-false _ _ n))
-      ]
-
-  pub best_is_spoiler : best marks None (filter (λ t. ltb 0 (marks t)) (next_states M s m)) ≡ spoiler_by M marks s m
-  best_is_spoiler = best_left (next_states M s m) None (passing_none M marks s m law _ refl)

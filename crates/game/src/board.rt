@@ -45,13 +45,18 @@ impl<T: Traffic> Marks<'_, '_, T> {
     }
 
     // The next state with the smallest mark above 0, the lower number among equals.
+    // A loop, which asks for a next state in one place: `min_by_key` asks in two, and takes longer.
     fn worst_next(&self, state: usize, mv: usize) -> Option<usize>
         ensures { result ≡ spoiler_by (T.meaning self.now.bounded.traffic.now) (on self.now.map.now) state mv }
     {
         let map = self.map;
-        next_states(self.bounded.traffic, state, mv)
-            .filter(|t| map[*t] > 0)
-            .min_by_key(|t| map[*t])
+        let mut worst: Option<usize> = None;
+        for t in next_states(self.bounded.traffic, state, mv) {
+            if map[t] > 0 && worst.is_none_or(|w| map[t] < map[w]) {
+                worst = Some(t);
+            }
+        }
+        worst
     }
 }
 

@@ -4,13 +4,6 @@ use course::check::Check;
 use site::site::Site;
 use std::fmt;
 
-/// A place of a record in which no check is noted yet.
-pub const UNUSED: Check = Check {
-    state: 0,
-    mv: 0,
-    next: 0,
-};
-
 /// The states of the four loops.
 #[derive(Clone, Copy)]
 pub struct Group {

@@ -1,6 +1,7 @@
 //! A site without a schedule: a play into a jam.
-use crate::check::{Group, UNUSED, print_checks};
+use crate::check::{Group, print_checks};
 use anyhow::anyhow;
+use course::check::UNUSED;
 use course::lost::lost_play;
 use game::board::Board;
 use site::site::Site;

@@ -1,53 +1,50 @@
-use Rattle.std.proofs.Common.{ℕ, ◌<◌, List, ltb, length, ap, ◌∙◌, arith, rules}
-use borrow.Author.Tests.{tests}
-use Rattle.std.proofs.lemmas.List.Elements.{All-filter}
-use Rattle.std.proofs.lemmas.Iterator.Adapters.{serves_from_places}
-use Rattle.std.proofs.lemmas.Iterator.Consumers.{YieldsList-from_first, YieldsList-at, YieldsList-from_filter}
-use Rattle.traffic.specs.Meaning.{Meaning}
-use Rattle.traffic.specs.NextStates.{next_states}
-use Rattle.traffic.proofs.Asked.{within_parts}
+use Rattle.std.proofs.Common.{◌≡◌, ◌∙◌, ◌<◌, ◌≤◌, length, IfSome, subst, sym, arith, rules}
 use Rattle.game.specs.Standing.{on}
-use Rattle.game.proofs.Choosing.{next_inside, serves_min, best_of, best_is_spoiler}
+use Rattle.game.specs.Choice.{ahead}
+use Rattle.traffic.specs.Meaning.{Meaning}
+use Rattle.traffic.proofs.Asked.{within_parts}
+use Rattle.game.proofs.Choosing.{passing_at, passing_inside, passing_passed, passing_kept, passing_replaced, passing_over}
 use Rattle.game.proofs.marks.Marks.worst_next.Goals as goal
+use Rattle.game.proofs.marks.Marks.worst_next.Goals.{else-map-t-gt0-via-then-map-t-gt0+else-is_none_or, else-map-t-gt0-via-else-map-t-gt0}
 
-pub min_by_key-requires-clause-can : goal.min_by_key-requires-clause-can
-min_by_key-requires-clause-can g c =
+pub offset_bounds-map-t : goal.offset_bounds-map-t
+offset_bounds-map-t g c =
     let M : Meaning = g.T.Traffic.meaning c.args.self.now.bounded.traffic.now in
     let few = (within_parts M c.args.self.now.bounded.limits).0 in
-    let all : List ℕ = next_states M c.args.state c.args.mv in
-    let road = YieldsList-at c.filter.ensures.source (YieldsList-from_first (λ (x : ℕ). x) (λ (x : List ℕ). x) all c.next_states.ensures) in
-    let same = ap (λ p. p.0.now) c.filter.ensures.closure in (
-      tt,
-      tt,
-      serves_from_places road (λ x q k. search (rules, tests))
-          (λ x k h e.
-          let i : x < M.states = omega (arith, next_inside M c.args.state c.args.mv k x h, e) in
-          let room : x < length c.args.self.now.map.now = omega arith in
-          search rules),
-    )
+    let high = passing_at _ _ _ _ _ _ _ _ c.loop-t.invariant c.in-Some.ensures.steps in
+    search rules
 
-pub min_by_key-requires-clause-callable : goal.min_by_key-requires-clause-callable
-min_by_key-requires-clause-callable g c =
+pub bounds-map-t : goal.bounds-map-t
+bounds-map-t g c =
+    let high = passing_at _ _ _ _ _ _ _ _ c.loop-t.invariant c.in-Some.ensures.steps in omega arith
+
+pub is_none_or-requires : goal.is_none_or-requires
+is_none_or-requires g c =
     let M : Meaning = g.T.Traffic.meaning c.args.self.now.bounded.traffic.now in
-    let marks : ℕ → ℕ = on c.args.self.now.map.now in
     let few = (within_parts M c.args.self.now.bounded.limits).0 in
-    let all : List ℕ = next_states M c.args.state c.args.mv in
-    let below = All-filter (λ t. ltb 0 (marks t)) (λ t. t < M.states) all (next_inside M c.args.state c.args.mv) in
-    let road = YieldsList-at c.filter.ensures.source (YieldsList-from_first (λ (x : ℕ). x) (λ (x : List ℕ). x) all c.next_states.ensures) in
-    serves_min (YieldsList-from_filter _ (λ t. ltb 0 (marks t)) road c.filter.ensures.closure (λ x b q k. search (rules, tests)))
-    (λ x k q h. search (rules, tests))
-    (λ x k h e.
-    let i : x < M.states = omega (arith, below k x h, e) in
-    let room : x < length c.args.self.now.map.now = omega arith in
-    search rules)
+    let high = passing_at _ _ _ _ _ _ _ _ c.loop-t.invariant c.in-Some.ensures.steps in
+    let room : M.states ≤ length c.args.self.now.map.now = omega arith in
+    let all = passing_inside _ _ _ _ (g.met.T.Traffic.lawful c.args.self.now.bounded.traffic.now) _ _ _ room c.loop-t.invariant in
+    λ x e.
+    let low : x < length c.args.self.now.map.now = subst (λ o. IfSome o (λ w. w < length c.args.self.now.map.now)) e all in
+    let here : c.in-Some.t < length c.args.self.now.map.now = omega arith in
+    search rules
+
+pub loop-t-preserved-then-is_none_or : goal.loop-t-preserved-then-is_none_or
+loop-t-preserved-then-is_none_or g c =
+    let first : c.is_none_or.result ≡ ahead (on c.args.self.now.map.now) c.in-Some.t c.loop-t.worst = search rules in
+    passing_replaced _ _ _ _ _ _ _ _ c.loop-t.invariant c.in-Some.ensures.steps c.if-map-t-gt0.true (sym first ∙ c.if-is_none_or.true)
+
+pub loop-t-preserved : goal.loop-t-preserved
+loop-t-preserved g c =
+    elim c.else-map-t-gt0.branch [
+      | else-map-t-gt0-via-then-map-t-gt0+else-is_none_or w ↦
+          let first : w.is_none_or.result ≡ ahead (on c.args.self.now.map.now) c.in-Some.t c.loop-t.worst = search rules in
+          passing_kept _ _ _ _ _ _ _ _ c.loop-t.invariant c.in-Some.ensures.steps (sym first ∙ w.if-is_none_or.false)
+      | else-map-t-gt0-via-else-map-t-gt0 w ↦
+          passing_passed _ _ _ _ _ _ _ _ c.loop-t.invariant c.in-Some.ensures.steps w.if-map-t-gt0.false
+    ]
 
 pub returns : goal.returns
 returns g c =
-    let M : Meaning = g.T.Traffic.meaning c.args.self.now.bounded.traffic.now in
-    let marks : ℕ → ℕ = on c.args.self.now.map.now in
-    let all : List ℕ = next_states M c.args.state c.args.mv in
-    let road = YieldsList-at c.filter.ensures.source (YieldsList-from_first (λ (x : ℕ). x) (λ (x : List ℕ). x) all c.next_states.ensures) in
-    best_of marks c.min_by_key.result c.min_by_key.ensures.ran
-    (YieldsList-from_filter _ (λ t. ltb 0 (marks t)) road c.filter.ensures.closure (λ x b q k. search (rules, tests)))
-    (λ x k q h. search (rules, tests))
-    ∙ best_is_spoiler M marks c.args.state c.args.mv (g.met.T.Traffic.lawful c.args.self.now.bounded.traffic.now) c.args.self.now.bounded.limits
+    passing_over _ _ _ _ (g.met.T.Traffic.lawful c.args.self.now.bounded.traffic.now) _ _ c.args.self.now.bounded.limits c.loop-t.invariant c.in-None.ensures.steps.0
